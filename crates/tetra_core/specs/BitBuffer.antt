@@ -1,0 +1,191 @@
+-- What each call of bitbuffer.rt answers, the cursor after it, and the bytes that it leaves. Document 01, "Bits".
+use Prim.Native.Nat.{ℕ, zero, suc, _+_, _-_, _*_, _/_, _^_}
+use mathlib.Core.List.{List, [], _∷_, _++_, map}
+use mathlib.Core.Bool.{Bool, true, false, _&&_}
+use lib.ListN.{length, replicate}
+use lib.IntN.{ℤ, pos, negsuc, _+ℤ_}
+use lib.Dec.{leb, ltb}
+use Rattle.tetra_core.specs.Bits.{digit, odd, bitsAt, getBits, putBits, bitsOfNat}
+use Rattle.tetra_core.specs.Refusal.{unless, first}
+use Rattle.tetra_core.specs.declared.bitbuffer.Cursor.{Cursor}
+use Rattle.tetra_core.specs.declared.bitbuffer.BitsAnswer.{BitsAnswer}
+use Rattle.tetra_core.specs.declared.bitbuffer.BitsAnswer.the-variants.{Value, Refused}
+use Rattle.tetra_core.specs.declared.bitbuffer.BitsRead.{BitsRead}
+use Rattle.tetra_core.specs.declared.bitbuffer.Outcome.{Outcome}
+use Rattle.tetra_core.specs.declared.bitbuffer.Outcome.the-variants as Outcome'
+use Rattle.tetra_core.specs.declared.bitbuffer.Moved.{Moved}
+use Rattle.tetra_core.specs.declared.bitbuffer.Copied.{Copied}
+use Rattle.tetra_core.specs.declared.bitbuffer.Opened.{Opened}
+use Rattle.tetra_core.specs.declared.bitbuffer.Opened.the-variants as Opened'
+
+-- "It is good where start ≤ cursor ≤ end, and end is at most 65,536 and at most 8 × the bytes."
+unfoldable pub goodWindow : ℕ → Cursor → Bool
+goodWindow len c = leb (c .start) (c .pos) && (leb (c .pos) (c .end) && (leb (c .end) 65536 && leb (c .end) (8 * len)))
+
+-- the bits from the cursor to the window's end
+abbrev pub remaining : Cursor → ℕ
+remaining c = c .end - c .pos
+
+-- the cursor at another bit; "the cursor moves on by the bits of the field"
+abbrev pub at : Cursor → ℕ → Cursor
+at c p = record { start = c .start; pos = p; end = c .end }
+
+abbrev pub moved : Cursor → ℕ → Cursor
+moved c n = at c (c .pos + n)
+
+-- ---- the forms of an answer, where the number of its refusal is j, or 0 if nothing refuses it
+
+-- a number; "a bare field or peek gives 0" for the place of its refusal
+abbrev pub answer : ℕ → ℕ → BitsAnswer
+answer zero v = Value v
+answer (suc j) v = Refused (record { number = suc j; bit = 0 })
+
+-- the cursor after a call, which a refusal leaves as it was
+abbrev pub after : ℕ → Cursor → Cursor → Cursor
+after zero c d = d
+after (suc j) c d = c
+
+-- what a call that writes, copies or moves says: "a write refusal is its number alone"
+abbrev pub outcome : ℕ → Outcome
+outcome zero = Outcome'.Done
+outcome (suc j) = Outcome'.Refused (suc j)
+
+-- the bytes after a call: t, or where it is refused s as they were
+abbrev pub bytesAfter : ℕ → List ℕ → List ℕ → List ℕ
+bytesAfter zero s t = t
+bytesAfter (suc j) s t = s
+
+abbrev pub reads : ℕ → ℕ → Cursor → Cursor → BitsRead
+reads j v c d = record { cursor = after j c d; answer = answer j v }
+
+abbrev pub moves : ℕ → Cursor → Cursor → Moved
+moves j c d = record { cursor = after j c d; answer = outcome j }
+
+-- ---- reads
+
+-- why n bits from bit p on are not read: "read past the end, over 64 bits", and "a place before the window's start is refused with 1"
+unfoldable pub readRefusal : ℕ → Cursor → ℕ → ℕ → ℕ
+readRefusal len c p n =
+    first (unless (goodWindow len c) 13 ∷ unless (leb n 64) 1 ∷ unless (leb (c .start) p) 1 ∷ unless (leb (p + n) (c .end)) 1 ∷ [])
+
+unfoldable pub readBits : List ℕ → Cursor → ℕ → BitsRead
+readBits s c n = reads (readRefusal (length s) c (c .pos) n) (getBits s (c .pos) n) c (moved c n)
+
+-- a peek at bit p of the slice leaves the cursor
+unfoldable pub peekAt : List ℕ → Cursor → ℕ → ℕ → BitsRead
+peekAt s c p n = reads (readRefusal (length s) c p n) (getBits s p n) c c
+
+-- the place of a signed offset from the cursor: one before bit 0 of the slice is before the window's start
+abbrev pub peekFrom : List ℕ → Cursor → ℤ → ℕ → BitsRead
+peekFrom s c (pos p) n = peekAt s c p n
+peekFrom s c (negsuc k) n = reads (first (unless (goodWindow (length s) c) 13 ∷ 1 ∷ [])) 0 c c
+
+unfoldable pub peekBitsPosoffset : List ℕ → Cursor → ℤ → ℕ → BitsRead
+peekBitsPosoffset s c o n = peekFrom s c (pos (c .pos) +ℤ o) n
+
+-- n bits as bytes, the last one filled up with zeros; "short source: 1; short destination: 2"
+abbrev pub octetsOf : ℕ → ℕ
+octetsOf n = (n + 7) / 8
+
+unfoldable pub intoSliceRefusal : ℕ → Cursor → ℕ → ℕ → ℕ
+intoSliceRefusal len c n room =
+    first (unless (goodWindow len c) 13 ∷ unless (leb n (remaining c)) 1 ∷ unless (leb (octetsOf n) room) 2 ∷ [])
+
+unfoldable pub readBitsIntoSlice : List ℕ → Cursor → ℕ → List ℕ → BitsRead
+readBitsIntoSlice s c n buf = reads (intoSliceRefusal (length s) c n (length buf)) n c (moved c n)
+
+unfoldable pub slicedBits : List ℕ → Cursor → ℕ → List ℕ → List ℕ
+slicedBits s c n buf =
+    bytesAfter (intoSliceRefusal (length s) c n (length buf)) buf
+    (putBits buf 0 (bitsAt s (c .pos) n ++ replicate (8 * octetsOf n - n) false))
+
+-- a byte 0 or 1 for each bit, as many as buf has bytes
+unfoldable pub bitarrRefusal : ℕ → Cursor → ℕ → ℕ
+bitarrRefusal len c n = first (unless (goodWindow len c) 13 ∷ unless (leb n (remaining c)) 1 ∷ [])
+
+unfoldable pub toBitarr : List ℕ → Cursor → List ℕ → BitsRead
+toBitarr s c buf = reads (bitarrRefusal (length s) c (length buf)) (length buf) c (moved c (length buf))
+
+unfoldable pub bitarr : List ℕ → Cursor → List ℕ → List ℕ
+bitarr s c buf = bytesAfter (bitarrRefusal (length s) c (length buf)) buf (map digit (bitsAt s (c .pos) (length buf)))
+
+-- ---- writes
+
+-- "Write checks: width over 64, then value, then end."
+unfoldable pub writeRefusal : ℕ → Cursor → ℕ → ℕ → ℕ
+writeRefusal len c v n =
+    first (unless (goodWindow len c) 13 ∷ unless (leb n 64) 2 ∷ unless (ltb v (2 ^ n)) 3 ∷ unless (leb n (remaining c)) 2 ∷ [])
+
+unfoldable pub writeBits : List ℕ → Cursor → ℕ → ℕ → Moved
+writeBits s c v n = moves (writeRefusal (length s) c v n) c (moved c n)
+
+unfoldable pub written : List ℕ → Cursor → ℕ → ℕ → List ℕ
+written s c v n = bytesAfter (writeRefusal (length s) c v n) s (putBits s (c .pos) (bitsOfNat n v))
+
+-- n bits that are all b, as many as the window has room for
+unfoldable pub runRefusal : ℕ → Cursor → ℕ → ℕ
+runRefusal len c n = first (unless (goodWindow len c) 13 ∷ unless (leb n (remaining c)) 2 ∷ [])
+
+unfoldable pub writeRun : List ℕ → Cursor → ℕ → Moved
+writeRun s c n = moves (runRefusal (length s) c n) c (moved c n)
+
+unfoldable pub runWritten : Bool → List ℕ → Cursor → ℕ → List ℕ
+runWritten b s c n = bytesAfter (runRefusal (length s) c n) s (putBits s (c .pos) (replicate n b))
+
+-- n bits of the slice s at its cursor c into the slice t at its cursor d
+unfoldable pub copyRefusal : ℕ → Cursor → ℕ → Cursor → ℕ → ℕ
+copyRefusal lent d lens c n =
+    first
+    (unless (goodWindow lent d) 13
+    ∷ unless (goodWindow lens c) 13
+    ∷ unless (leb n (remaining c)) 1
+    ∷ unless (leb n (remaining d)) 2
+    ∷ [])
+
+unfoldable pub copyBits : List ℕ → Cursor → List ℕ → Cursor → ℕ → Copied
+copyBits t d s c n =
+    let j = copyRefusal (length t) d (length s) c n in
+    record { cursor = after j d (moved d n); source = after j c (moved c n); answer = outcome j }
+
+unfoldable pub copied : List ℕ → Cursor → List ℕ → Cursor → ℕ → List ℕ
+copied t d s c n = bytesAfter (copyRefusal (length t) d (length s) c n) t (putBits t (d .pos) (bitsAt s (c .pos) n))
+
+-- each byte of buf is a bit: "a value that is no bit: 3"
+abbrev pub areBits : List ℕ → Bool
+areBits [] = true
+areBits (b ∷ bs) = ltb b 2 && areBits bs
+
+unfoldable pub fromBitarrRefusal : ℕ → Cursor → List ℕ → ℕ
+fromBitarrRefusal len c buf = first (unless (goodWindow len c) 13 ∷ unless (areBits buf) 3 ∷ unless (leb (length buf) (remaining c)) 2 ∷ [])
+
+unfoldable pub copyBitsFromBitarr : List ℕ → Cursor → List ℕ → Moved
+copyBitsFromBitarr s c buf = moves (fromBitarrRefusal (length s) c buf) c (moved c (length buf))
+
+unfoldable pub fromBitarr : List ℕ → Cursor → List ℕ → List ℕ
+fromBitarr s c buf = bytesAfter (fromBitarrRefusal (length s) c buf) s (putBits s (c .pos) (map odd buf))
+
+-- ---- the window itself
+
+-- a length or a place of a window that is good
+unfoldable pub windowCount : ℕ → Cursor → ℕ → BitsAnswer
+windowCount len c v = answer (unless (goodWindow len c) 13) v
+
+-- a window changed into d: "a window that would be bad: 13"
+unfoldable pub changed : ℕ → Cursor → Cursor → Moved
+changed len c d = moves (unless (goodWindow len c && goodWindow len d) 13) c d
+
+-- a seek by a signed offset
+abbrev pub seekTo : ℕ → Cursor → ℤ → Moved
+seekTo len c (pos p) = changed len c (at c p)
+seekTo len c (negsuc k) = moves 13 c c
+
+unfoldable pub seekRel : ℕ → Cursor → ℤ → Moved
+seekRel len c o = seekTo len c (pos (c .pos) +ℤ o)
+
+-- a window over the first n bits: "bit count over limit or slice"
+unfoldable pub opened : ℕ → ℕ → Opened
+opened len n = openedOf (goodWindow len (record { start = 0; pos = 0; end = n })) n
+  where
+    openedOf : Bool → ℕ → Opened
+    openedOf true n = Opened'.Window (record { start = 0; pos = 0; end = n })
+    openedOf false n = Opened'.Refused (record { number = 13; bit = 0 })

@@ -1,0 +1,145 @@
+-- Windows: what a good one gives, what is known where a call is not refused, and the forms of an answer.
+use Prim.Native.Nat.{ℕ, zero, suc, _+_, _-_, _*_, _^_, _≤_, _<_}
+use mathlib.Core.Path.{_≡_, refl, sym, _∙_}
+use mathlib.Core.List.{List}
+use mathlib.Core.Bool.{Bool, true, false, _&&_}
+use native.Mathlib.Omega.{arith}
+use borrow.Author.Tests.{leb-true, ltb-true, le-leb, lt-ltb}
+use lib.ListN.{length}
+use lib.Dec.{leb, ltb}
+use Rattle.tetra_core.specs.Bits.{getBits, putBits, bitsOfNat}
+use Rattle.tetra_core.specs.Refusal.{unless, first, first-none, passed}
+use Rattle.tetra_core.specs.BitBuffer.{goodWindow, at, moved, after, answer, outcome, bytesAfter, reads, moves, readRefusal, readBits, writeRefusal, written}
+use Rattle.tetra_core.specs.Laws.Writes.{length-putBits, getBits-putBits}
+use Rattle.tetra_core.specs.declared.bitbuffer.Cursor.{Cursor}
+use Rattle.tetra_core.specs.declared.bitbuffer.BitsAnswer.the-variants.{Value, Refused}
+use Rattle.tetra_core.specs.declared.bitbuffer.BitsRead.{BitsRead}
+use Rattle.tetra_core.specs.declared.bitbuffer.Outcome.the-variants as Outcome'
+use Rattle.tetra_core.specs.declared.bitbuffer.Moved.{Moved}
+
+-- ---- a good window
+
+pub record Good (len : ℕ) (c : Cursor) : Type 0 where
+  pub begins : c .start ≤ c .pos
+  pub ends : c .pos ≤ c .end
+  pub small : c .end ≤ 65536
+  pub inside : c .end ≤ 8 * len
+
+pub and-both : (a b : Bool) → a && b ≡ true → (a ≡ true) × (b ≡ true)
+and-both true true e = (refl, refl)
+and-both true false e = (refl, e)
+and-both false true e = (e, refl)
+and-both false false e = (e, e)
+
+pub good-facts : (len : ℕ) (c : Cursor) → goodWindow len c ≡ true → Good len c
+unfolding goodWindow
+good-facts len c e =
+    let p = and-both (leb (c .start) (c .pos)) _ e in
+    let q = and-both (leb (c .pos) (c .end)) _ (p .1) in
+    let r = and-both (leb (c .end) 65536) _ (q .1) in
+    record {
+      begins = leb-true _ _ (p .0);
+      ends = leb-true _ _ (q .0);
+      small = leb-true _ _ (r .0);
+      inside = leb-true _ _ (r .1);
+    }
+
+pub good-test : (len : ℕ) (c : Cursor) → Good len c → goodWindow len c ≡ true
+unfolding goodWindow
+good-test len c g = simp (le-leb _ _ (g .begins), le-leb _ _ (g .ends), le-leb _ _ (g .small), le-leb _ _ (g .inside))
+
+-- the window after n bits is good too
+pub moved-good : (len : ℕ) (c : Cursor) (n : ℕ) → Good len c → n ≤ c .end - c .pos → Good len (moved c n)
+moved-good len c n g h = record { begins = omega (arith, g); ends = omega (arith, g); small = g .small; inside = g .inside }
+
+-- ---- a read and a write that nothing refuses
+
+pub record Readable (len : ℕ) (c : Cursor) (p n : ℕ) : Type 0 where
+  pub good : Good len c
+  pub narrow : n ≤ 64
+  pub after : c .start ≤ p
+  pub room : p + n ≤ c .end
+
+pub readable : (len : ℕ) (c : Cursor) (p n : ℕ) → readRefusal len c p n ≡ 0 → Readable len c p n
+unfolding readRefusal
+readable len c p n e =
+    let w = first-none (unless (goodWindow len c) 13) _ e in
+    let x = first-none (unless (leb n 64) 1) _ (w .1) in
+    let y = first-none (unless (leb (c .start) p) 1) _ (x .1) in
+    let z = first-none (unless (leb (p + n) (c .end)) 1) _ (y .1) in
+    record {
+      good = good-facts len c (passed _ 12 (w .0));
+      narrow = leb-true _ _ (passed _ 0 (x .0));
+      after = leb-true _ _ (passed _ 0 (y .0));
+      room = leb-true _ _ (passed _ 0 (z .0));
+    }
+
+pub read-free : (len : ℕ) (c : Cursor) (p n : ℕ) → Readable len c p n → readRefusal len c p n ≡ 0
+unfolding readRefusal first
+read-free len c p n r = simp (good-test len c (r .good), le-leb _ _ (r .narrow), le-leb _ _ (r .after), le-leb _ _ (r .room))
+
+pub record Writable (len : ℕ) (c : Cursor) (v n : ℕ) : Type 0 where
+  pub good : Good len c
+  pub narrow : n ≤ 64
+  pub holds : v < 2 ^ n
+  pub room : n ≤ c .end - c .pos
+
+pub writable : (len : ℕ) (c : Cursor) (v n : ℕ) → writeRefusal len c v n ≡ 0 → Writable len c v n
+unfolding writeRefusal
+writable len c v n e =
+    let w = first-none (unless (goodWindow len c) 13) _ e in
+    let x = first-none (unless (leb n 64) 2) _ (w .1) in
+    let y = first-none (unless (ltb v (2 ^ n)) 3) _ (x .1) in
+    let z = first-none (unless (leb n (c .end - c .pos)) 2) _ (y .1) in
+    record {
+      good = good-facts len c (passed _ 12 (w .0));
+      narrow = leb-true _ _ (passed _ 1 (x .0));
+      holds = ltb-true _ _ (passed _ 2 (y .0));
+      room = leb-true _ _ (passed _ 1 (z .0));
+    }
+
+pub write-free : (len : ℕ) (c : Cursor) (v n : ℕ) → Writable len c v n → writeRefusal len c v n ≡ 0
+unfolding writeRefusal first
+write-free len c v n r = simp (good-test len c (r .good), le-leb _ _ (r .narrow), lt-ltb _ _ (r .holds), le-leb _ _ (r .room))
+
+-- ---- the forms of an answer: refused by r, or done
+
+pub read-refused : (r j v : ℕ) (c d : Cursor) → r ≡ j → (r ≡ 0 → ⊥)
+    → record { cursor = c; answer = Refused (record { number = r; bit = 0 }) } ≡ reads j v c d
+read-refused r zero v c d e h = absurd (h e)
+read-refused r (suc j) v c d e h = rw e
+
+pub read-done : (j v : ℕ) (c d : Cursor) → j ≡ 0 → record { cursor = d; answer = Value v } ≡ reads j v c d
+read-done zero v c d e = refl
+read-done (suc j) v c d e = absurd (omega arith)
+
+pub move-refused : (r j : ℕ) (c d : Cursor) → r ≡ j → (r ≡ 0 → ⊥) → record { cursor = c; answer = Outcome'.Refused r } ≡ moves j c d
+move-refused r zero c d e h = absurd (h e)
+move-refused r (suc j) c d e h = rw e
+
+pub move-done : (j : ℕ) (c d : Cursor) → j ≡ 0 → record { cursor = d; answer = Outcome'.Done } ≡ moves j c d
+move-done zero c d e = refl
+move-done (suc j) c d e = absurd (omega arith)
+
+pub bytes-refused : (r j : ℕ) (s t : List ℕ) → r ≡ j → (r ≡ 0 → ⊥) → s ≡ bytesAfter j s t
+bytes-refused r zero s t e h = absurd (h e)
+bytes-refused r (suc j) s t e h = refl
+
+pub bytes-done : (j : ℕ) (s t : List ℕ) → j ≡ 0 → t ≡ bytesAfter j s t
+bytes-done zero s t e = refl
+bytes-done (suc j) s t e = absurd (omega arith)
+
+-- ---- what was written is read back
+
+pub read-back : (s : List ℕ) (c : Cursor) (v n : ℕ) → writeRefusal (length s) c v n ≡ 0
+    → readBits (written s c v n) c n ≡ record { cursor = moved c n; answer = Value v }
+unfolding readBits written
+read-back s c v n e =
+    let r = writable (length s) c v n e in
+    let g = r .good in
+    rw (
+      e,
+      length-putBits s (c .pos) (bitsOfNat n v),
+      read-free (length s) c (c .pos) n (record { good = g; narrow = r .narrow; after = g .begins; room = omega arith }),
+      getBits-putBits s (c .pos) n v (omega arith) (r .holds),
+    )

@@ -1,0 +1,4 @@
+pub mod Bits
+pub mod Refusal
+pub mod BitBuffer
+pub mod Laws

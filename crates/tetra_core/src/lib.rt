@@ -1,0 +1,4 @@
+// What every layer above stands on: bits of lent bytes through a window, refusals, quantities and addresses.
+pub mod bitbuffer;
+pub mod refusal;
+pub mod word;
