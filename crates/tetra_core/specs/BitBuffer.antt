@@ -1,5 +1,5 @@
 -- What each call of bitbuffer.rt answers, the cursor after it, and the bytes that it leaves. Document 01, "Bits".
-use Prim.Native.Nat.{ℕ, zero, suc, _+_, _-_, _*_, _/_, _^_}
+use Prim.Native.Nat.{ℕ, zero, suc, _+_, _-_, _*_, _^_}
 use mathlib.Core.List.{List, [], _∷_, _++_, map}
 use mathlib.Core.Bool.{Bool, true, false, _&&_}
 use lib.ListN.{length, replicate}
@@ -7,6 +7,7 @@ use lib.IntN.{ℤ, pos, negsuc, _+ℤ_}
 use lib.Dec.{leb, ltb}
 use Rattle.tetra_core.specs.Bits.{digit, odd, bitsAt, getBits, putBits, bitsOfNat}
 use Rattle.tetra_core.specs.Refusal.{unless, first}
+use Rattle.tetra_core.specs.Quantity.{octetsOf, fillOf}
 use Rattle.tetra_core.specs.declared.bitbuffer.Cursor.{Cursor}
 use Rattle.tetra_core.specs.declared.bitbuffer.BitsAnswer.{BitsAnswer}
 use Rattle.tetra_core.specs.declared.bitbuffer.BitsAnswer.the-variants.{Value, Refused}
@@ -16,6 +17,8 @@ use Rattle.tetra_core.specs.declared.bitbuffer.Outcome.the-variants as O
 use Rattle.tetra_core.specs.declared.bitbuffer.Moved.{Moved}
 use Rattle.tetra_core.specs.declared.bitbuffer.Copied.{Copied}
 use Rattle.tetra_core.specs.declared.bitbuffer.Opened.{Opened}
+use Rattle.tetra_core.specs.declared.bitbuffer.Place.{Place}
+use Rattle.tetra_core.specs.declared.bitbuffer.Place.the-variants as Place'
 use Rattle.tetra_core.specs.declared.bitbuffer.Opened.the-variants as Opened'
 
 -- "It is good where start ≤ cursor ≤ end, and end is at most 65,536 and at most 8 × the bytes."
@@ -61,6 +64,10 @@ reads j v c d = record { cursor = after j c d; answer = answer j v }
 abbrev pub moves : ℕ → Cursor → Cursor → Moved
 moves j c d = record { cursor = after j c d; answer = outcome j }
 
+-- a read that is refused by a number
+abbrev pub readRefused : Cursor → ℕ → BitsRead
+readRefused c j = record { cursor = c; answer = Refused (record { number = j; bit = 0 }) }
+
 -- ---- reads
 
 -- why n bits from bit p on are not read: "read past the end, over 64 bits", and "a place before the window's start is refused with 1"
@@ -75,18 +82,24 @@ readBits s c n = reads (readRefusal (length s) c (c .pos) n) (getBits s (c .pos)
 unfoldable pub peekAt : List ℕ → Cursor → ℕ → ℕ → BitsRead
 peekAt s c p n = reads (readRefusal (length s) c p n) (getBits s p n) c c
 
--- the place of a signed offset from the cursor: one before bit 0 of the slice is before the window's start
-abbrev pub peekFrom : List ℕ → Cursor → ℤ → ℕ → BitsRead
-peekFrom s c (pos p) n = peekAt s c p n
-peekFrom s c (negsuc k) n = reads (first (unless (goodWindow (length s) c) 13 ∷ 1 ∷ [])) 0 c c
+-- a number as a signed one
+abbrev pub signed : ℕ → ℤ
+signed n = pos n
+
+-- the bit of the slice at a signed place
+unfoldable pub placeOf : ℤ → Place
+placeOf (pos p) = Place'.Bit p
+placeOf (negsuc k) = Place'.Before
+
+-- a peek at a signed offset from the cursor: a bit before bit 0 of the slice is before the window's start
+abbrev pub peekPlace : List ℕ → Cursor → Place → ℕ → BitsRead
+peekPlace s c (Place'.Bit p) n = peekAt s c p n
+peekPlace s c Place'.Before n = reads (first (unless (goodWindow (length s) c) 13 ∷ 1 ∷ [])) 0 c c
 
 unfoldable pub peekBitsPosoffset : List ℕ → Cursor → ℤ → ℕ → BitsRead
-peekBitsPosoffset s c o n = peekFrom s c (pos (c .pos) +ℤ o) n
+peekBitsPosoffset s c o n = peekPlace s c (placeOf (signed (c .pos) +ℤ o)) n
 
 -- n bits as bytes, the last one filled up with zeros; "short source: 1; short destination: 2"
-abbrev pub octetsOf : ℕ → ℕ
-octetsOf n = (n + 7) / 8
-
 unfoldable pub intoSliceRefusal : ℕ → Cursor → ℕ → ℕ → ℕ
 intoSliceRefusal len c n room =
     first (unless (goodWindow len c) 13 ∷ unless (leb n (remaining c)) 1 ∷ unless (leb (octetsOf n) room) 2 ∷ [])
@@ -97,7 +110,7 @@ readBitsIntoSlice s c n buf = reads (intoSliceRefusal (length s) c n (length buf
 unfoldable pub slicedBits : List ℕ → Cursor → ℕ → List ℕ → List ℕ
 slicedBits s c n buf =
     bytesAfter (intoSliceRefusal (length s) c n (length buf)) buf
-    (putBits buf 0 (bitsAt s (c .pos) n ++ replicate (8 * octetsOf n - n) false))
+    (putBits buf 0 (bitsAt s (c .pos) n ++ replicate (fillOf n) false))
 
 -- a byte 0 or 1 for each bit, as many as buf has bytes
 unfoldable pub bitarrRefusal : ℕ → Cursor → ℕ → ℕ
@@ -175,17 +188,17 @@ unfoldable pub changed : ℕ → Cursor → Cursor → Moved
 changed len c d = moves (unless (goodWindow len c && goodWindow len d) 13) c d
 
 -- a seek by a signed offset
-abbrev pub seekTo : ℕ → Cursor → ℤ → Moved
-seekTo len c (pos p) = changed len c (at c p)
-seekTo len c (negsuc k) = moves 13 c c
+abbrev pub seekPlace : ℕ → Cursor → Place → Moved
+seekPlace len c (Place'.Bit p) = changed len c (at c p)
+seekPlace len c Place'.Before = moves 13 c c
 
 unfoldable pub seekRel : ℕ → Cursor → ℤ → Moved
-seekRel len c o = seekTo len c (pos (c .pos) +ℤ o)
+seekRel len c o = seekPlace len c (placeOf (signed (c .pos) +ℤ o))
 
 -- a window over the first n bits: "bit count over limit or slice"
+abbrev pub windowOf : Bool → Cursor → Opened
+windowOf true c = Opened'.Window c
+windowOf false c = Opened'.Refused (record { number = 13; bit = 0 })
+
 unfoldable pub opened : ℕ → ℕ → Opened
-opened len n = openedOf (goodWindow len (record { start = 0; pos = 0; end = n })) n
-  where
-    openedOf : Bool → ℕ → Opened
-    openedOf true n = Opened'.Window (record { start = 0; pos = 0; end = n })
-    openedOf false n = Opened'.Refused (record { number = 13; bit = 0 })
+opened len n = windowOf (goodWindow len (record { start = 0; pos = 0; end = n })) (record { start = 0; pos = 0; end = n })

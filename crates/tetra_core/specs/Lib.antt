@@ -1,4 +1,6 @@
 pub mod Bits
 pub mod Refusal
+pub mod Quantity
+pub mod Address
 pub mod BitBuffer
 pub mod Laws

@@ -7,8 +7,9 @@ ghost use mathlib.Core.Path.{_≡_};
 ghost use Prim.Native.Nat.{_+_, _-_, _*_, _^_, _≤_, _<_};
 ghost use mathlib.Core.Bool.{true, false};
 ghost use lib.ListN.{length};
+ghost use lib.IntN.{_+ℤ_};
 ghost use lib.Dec.{ltb};
-ghost use Rattle.tetra_core.specs.BitBuffer.{goodWindow, readRefusal, readBits, peekAt, peekBitsPosoffset, writeRefusal, writeBits, written, windowCount, changed, seekRel, opened, at, remaining};
+ghost use Rattle.tetra_core.specs.BitBuffer.{goodWindow, readRefusal, readBits, peekAt, peekBitsPosoffset, writeRefusal, writeBits, written, at, placeOf, signed, readRefused, moves, windowCount, changed, seekRel, opened};
 
 // A window over a slice and the bit that it has reached. It is good where start <= pos <= end, and end is at most 65,536 and
 // at most the bits of the slice.
@@ -126,14 +127,13 @@ fn write_refusal(len: usize, c: Cursor, value: u64, num_bits: usize) -> u8
     0
 }
 
-// The cursor, with another position.
-fn moved_to(c: Cursor, p: usize) -> Cursor
-    ensures { λ r. ⌜ r ≡ at c p ⌝ }
+// A read that is refused leaves the cursor.
+fn refused(c: Cursor, number: u8) -> BitsRead
+    ensures { λ r. ⌜ r ≡ readRefused c number ⌝ }
 {
-    Cursor {
-        start: c.start,
-        pos: p,
-        end: c.end,
+    BitsRead {
+        cursor: c,
+        answer: BitsAnswer::Refused(Refusal { number, bit: 0 }),
     }
 }
 
@@ -144,14 +144,15 @@ pub fn read_bits(s: &[u8], c: Cursor, num_bits: usize) -> BitsRead
     let pos = c.pos;
     let number = read_refusal(s.len(), c, pos, num_bits);
     if number != 0 {
-        return BitsRead {
-            cursor: c,
-            answer: BitsAnswer::Refused(Refusal { number, bit: 0 }),
-        };
+        return refused(c, number);
     }
     let value = word::get_bits(s, pos, num_bits);
     BitsRead {
-        cursor: moved_to(c, pos + num_bits),
+        cursor: Cursor {
+            start: c.start,
+            pos: pos + num_bits,
+            end: c.end,
+        },
         answer: BitsAnswer::Value(value),
     }
 }
@@ -169,10 +170,7 @@ fn peek_at(s: &[u8], c: Cursor, p: usize, num_bits: usize) -> BitsRead
 {
     let number = read_refusal(s.len(), c, p, num_bits);
     if number != 0 {
-        return BitsRead {
-            cursor: c,
-            answer: BitsAnswer::Refused(Refusal { number, bit: 0 }),
-        };
+        return refused(c, number);
     }
     let value = word::get_bits(s, p, num_bits);
     BitsRead {
@@ -189,6 +187,56 @@ pub fn peek_bits(s: &[u8], c: Cursor, num_bits: usize) -> BitsRead
     peek_at(s, c, pos, num_bits)
 }
 
+// A bit of the slice that is so many bits from a cursor, or none where it would be before bit 0.
+enum Place {
+    Bit(usize),
+    Before,
+}
+
+// The bit that is offset bits from pos.
+fn place_of(pos: usize, offset: isize) -> Place
+    requires { ⌜ pos ≤ 65536 ⌝ }
+    ensures { λ r. ⌜ r ≡ placeOf (signed pos +ℤ offset) ⌝ }
+{
+    if offset < 0 {
+        // One more, so that the least isize has a magnitude too.
+        let back = (-(offset + 1)) as usize;
+        if pos <= back {
+            return Place::Before;
+        }
+        return Place::Bit(pos - 1 - back);
+    }
+    Place::Bit(pos + offset as usize)
+}
+
+// Reads num_bits bits so many bits from the cursor, before or behind it, and leaves it.
+pub fn peek_bits_posoffset(s: &[u8], c: Cursor, offset: isize, num_bits: usize) -> BitsRead
+    ensures { λ r. ⌜ r ≡ peekBitsPosoffset (now (s .entry)) c offset «num_bits» ⌝ }
+{
+    if !good_window(s.len(), c) {
+        return refused(c, refusal::BAD_WINDOW);
+    }
+    let pos = c.pos;
+    match place_of(pos, offset) {
+        Place::Bit(p) => peek_at(s, c, p, num_bits),
+        Place::Before => refused(c, refusal::READ_PAST_END),
+    }
+}
+
+// Reads num_bits bits so many bits from the window's start, and leaves the cursor.
+pub fn peek_bits_startoffset(s: &[u8], c: Cursor, offset: usize, num_bits: usize) -> BitsRead
+    ensures { λ r. ⌜ r ≡ peekAt (now (s .entry)) c (c .start + offset) «num_bits» ⌝ }
+{
+    if !good_window(s.len(), c) {
+        return refused(c, refusal::BAD_WINDOW);
+    }
+    if c.end - c.start < offset {
+        return refused(c, refusal::READ_PAST_END);
+    }
+    let p = c.start + offset;
+    peek_at(s, c, p, num_bits)
+}
+
 // Writes value in num_bits bits, 64 at most.
 pub fn write_bits(s: &mut [u8], c: Cursor, value: u64, num_bits: usize) -> Moved
     ensures { λ r. ⌜ (r ≡ writeBits (now (s .entry)) c value «num_bits») × (now (s .exit) ≡ written (now (s .entry)) c value «num_bits») ⌝ }
@@ -203,7 +251,221 @@ pub fn write_bits(s: &mut [u8], c: Cursor, value: u64, num_bits: usize) -> Moved
     let pos = c.pos;
     word::put_bits(s, pos, num_bits, value);
     Moved {
-        cursor: moved_to(c, pos + num_bits),
+        cursor: Cursor {
+            start: c.start,
+            pos: pos + num_bits,
+            end: c.end,
+        },
         answer: Outcome::Done,
     }
+}
+
+// Writes one bit: 0 or 1.
+pub fn write_bit(s: &mut [u8], c: Cursor, value: u8) -> Moved
+    ensures { λ r. ⌜ (r ≡ writeBits (now (s .entry)) c value 1) × (now (s .exit) ≡ written (now (s .entry)) c value 1) ⌝ }
+{
+    write_bits(s, c, value as u64, 1)
+}
+
+// The bits from a to b of a good window.
+fn window_count(len: usize, c: Cursor, a: usize, b: usize) -> BitsAnswer
+    ensures { λ r. ⌜ r ≡ windowCount len c (b - a) ⌝ }
+{
+    if good_window(len, c) {
+        if a < b {
+            return BitsAnswer::Value((b - a) as u64);
+        }
+        return BitsAnswer::Value(0);
+    }
+    BitsAnswer::Refused(Refusal {
+        number: refusal::BAD_WINDOW,
+        bit: 0,
+    })
+}
+
+// The bits of the window.
+pub fn get_len(s: &[u8], c: Cursor) -> BitsAnswer
+    ensures { λ r. ⌜ r ≡ windowCount (length (now (s .entry))) c (c .end - c .start) ⌝ }
+{
+    window_count(s.len(), c, c.start, c.end)
+}
+
+// The bits from the cursor to the window's end.
+pub fn get_len_remaining(s: &[u8], c: Cursor) -> BitsAnswer
+    ensures { λ r. ⌜ r ≡ windowCount (length (now (s .entry))) c (c .end - c .pos) ⌝ }
+{
+    window_count(s.len(), c, c.pos, c.end)
+}
+
+// The bits from the window's start to the cursor.
+pub fn get_len_written(s: &[u8], c: Cursor) -> BitsAnswer
+    ensures { λ r. ⌜ r ≡ windowCount (length (now (s .entry))) c (c .pos - c .start) ⌝ }
+{
+    window_count(s.len(), c, c.start, c.pos)
+}
+
+// The cursor's bit, counted from the window's start.
+pub fn get_pos(s: &[u8], c: Cursor) -> BitsAnswer
+    ensures { λ r. ⌜ r ≡ windowCount (length (now (s .entry))) c (c .pos - c .start) ⌝ }
+{
+    get_len_written(s, c)
+}
+
+// A window that is left as it is, because it or what it would become is not good.
+fn unchanged(c: Cursor) -> Moved
+    ensures { λ r. ⌜ r ≡ moves 13 c c ⌝ }
+{
+    Moved {
+        cursor: c,
+        answer: Outcome::Refused(refusal::BAD_WINDOW),
+    }
+}
+
+// The window d in the place of c, where both are good.
+fn change(len: usize, c: Cursor, d: Cursor) -> Moved
+    ensures { λ r. ⌜ r ≡ changed len c d ⌝ }
+{
+    if !good_window(len, c) {
+        return unchanged(c);
+    }
+    if !good_window(len, d) {
+        return unchanged(c);
+    }
+    Moved {
+        cursor: d,
+        answer: Outcome::Done,
+    }
+}
+
+// Moves the cursor to the bit offset, counted from the window's start.
+pub fn seek(s: &[u8], c: Cursor, offset: usize) -> Moved
+    ensures { λ r. ⌜ r ≡ changed (length (now (s .entry))) c (at c (c .start + offset)) ⌝ }
+{
+    if 65536 < c.start {
+        return unchanged(c);
+    }
+    if 65536 < offset {
+        return unchanged(c);
+    }
+    change(
+        s.len(),
+        c,
+        Cursor {
+            start: c.start,
+            pos: c.start + offset,
+            end: c.end,
+        },
+    )
+}
+
+// Moves the cursor by offset bits, on or back.
+pub fn seek_rel(s: &[u8], c: Cursor, offset: isize) -> Moved
+    ensures { λ r. ⌜ r ≡ seekRel (length (now (s .entry))) c offset ⌝ }
+{
+    let pos = c.pos;
+    if 65536 < pos {
+        return unchanged(c);
+    }
+    match place_of(pos, offset) {
+        Place::Bit(p) => set_raw_pos(s, c, p),
+        Place::Before => unchanged(c),
+    }
+}
+
+// The window's first bit in the slice.
+pub fn get_raw_start(c: Cursor) -> usize
+    ensures { λ r. ⌜ r ≡ c .start ⌝ }
+{
+    c.start
+}
+
+// The bit of the slice after the window's last.
+pub fn get_raw_end(c: Cursor) -> usize
+    ensures { λ r. ⌜ r ≡ c .end ⌝ }
+{
+    c.end
+}
+
+// The cursor's bit in the slice.
+pub fn get_raw_pos(c: Cursor) -> usize
+    ensures { λ r. ⌜ r ≡ c .pos ⌝ }
+{
+    c.pos
+}
+
+// Moves the window's start.
+pub fn set_raw_start(s: &[u8], c: Cursor, start: usize) -> Moved
+    ensures { λ r. ⌜ r ≡ changed (length (now (s .entry))) c (record { start = start; pos = c .pos; end = c .end }) ⌝ }
+{
+    change(
+        s.len(),
+        c,
+        Cursor {
+            start,
+            pos: c.pos,
+            end: c.end,
+        },
+    )
+}
+
+// Moves the window's end.
+pub fn set_raw_end(s: &[u8], c: Cursor, end: usize) -> Moved
+    ensures { λ r. ⌜ r ≡ changed (length (now (s .entry))) c (record { start = c .start; pos = c .pos; end = end }) ⌝ }
+{
+    change(
+        s.len(),
+        c,
+        Cursor {
+            start: c.start,
+            pos: c.pos,
+            end,
+        },
+    )
+}
+
+// Moves the cursor to a bit of the slice.
+pub fn set_raw_pos(s: &[u8], c: Cursor, pos: usize) -> Moved
+    ensures { λ r. ⌜ r ≡ changed (length (now (s .entry))) c (at c pos) ⌝ }
+{
+    change(
+        s.len(),
+        c,
+        Cursor {
+            start: c.start,
+            pos,
+            end: c.end,
+        },
+    )
+}
+
+// A window over the first len_bits bits of the slice, with its cursor at the first.
+pub fn new(s: &[u8], len_bits: usize) -> Opened
+    ensures { λ r. ⌜ r ≡ opened (length (now (s .entry))) «len_bits» ⌝ }
+{
+    let c = Cursor {
+        start: 0,
+        pos: 0,
+        end: len_bits,
+    };
+    if good_window(s.len(), c) {
+        return Opened::Window(c);
+    }
+    Opened::Refused(Refusal {
+        number: refusal::BAD_WINDOW,
+        bit: 0,
+    })
+}
+
+// A window over the whole slice.
+pub fn from_bytes(s: &[u8]) -> Opened
+    ensures { λ r. ⌜ r ≡ opened (length (now (s .entry))) (8 * length (now (s .entry))) ⌝ }
+{
+    let len = s.len();
+    if len <= 8192 {
+        return new(s, 8 * len);
+    }
+    Opened::Refused(Refusal {
+        number: refusal::BAD_WINDOW,
+        bit: 0,
+    })
 }

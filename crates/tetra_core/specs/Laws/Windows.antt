@@ -1,21 +1,21 @@
 -- Windows: what a good one gives, what is known where a call is not refused, and the forms of an answer.
 use Prim.Native.Nat.{ℕ, zero, suc, _+_, _-_, _*_, _^_, _≤_, _<_}
-use mathlib.Core.Path.{_≡_, refl, sym, _∙_}
-use mathlib.Core.List.{List}
+use mathlib.Core.Path.{_≡_, refl, sym}
+use mathlib.Core.List.{List, [], _∷_}
 use mathlib.Core.Bool.{Bool, true, false, _&&_}
 use native.Mathlib.Omega.{arith}
-use borrow.Author.Tests.{leb-true, ltb-true, le-leb, lt-ltb}
+use borrow.Author.Tests.{leb-true, ltb-true, le-leb, lt-leb, lt-ltb}
 use lib.ListN.{length}
 use lib.Dec.{leb, ltb}
-use Rattle.tetra_core.specs.Bits.{getBits, putBits, bitsOfNat}
+use Rattle.tetra_core.specs.Bits.{getBits, bitsOfNat}
 use Rattle.tetra_core.specs.Refusal.{unless, first, first-none, passed}
-use Rattle.tetra_core.specs.BitBuffer.{goodWindow, at, moved, after, answer, outcome, bytesAfter, reads, moves, readRefusal, readBits, writeRefusal, written}
+use Rattle.tetra_core.specs.BitBuffer.{goodWindow, at, moved, after, answer, bytesAfter, reads, readRefused, moves, changed, peekAt, peekPlace, seekPlace, readRefusal, readBits, writeRefusal, written}
 use Rattle.tetra_core.specs.Laws.Writes.{length-putBits, getBits-putBits}
 use Rattle.tetra_core.specs.declared.bitbuffer.Cursor.{Cursor}
 use Rattle.tetra_core.specs.declared.bitbuffer.BitsAnswer.the-variants.{Value, Refused}
-use Rattle.tetra_core.specs.declared.bitbuffer.BitsRead.{BitsRead}
 use Rattle.tetra_core.specs.declared.bitbuffer.Outcome.the-variants as Outcome'
-use Rattle.tetra_core.specs.declared.bitbuffer.Moved.{Moved}
+use Rattle.tetra_core.specs.declared.bitbuffer.Place.{Place}
+use Rattle.tetra_core.specs.declared.bitbuffer.Place.the-variants as Place'
 
 -- ---- a good window
 
@@ -47,6 +47,14 @@ good-facts len c e =
 pub good-test : (len : ℕ) (c : Cursor) → Good len c → goodWindow len c ≡ true
 unfolding goodWindow
 good-test len c g = simp (le-leb _ _ (g .begins), le-leb _ _ (g .ends), le-leb _ _ (g .small), le-leb _ _ (g .inside))
+
+-- a window of which one part is not good is not
+pub bad-test : (len : ℕ) (c : Cursor) → (Good len c → ⊥) → goodWindow len c ≡ false
+bad-test len c h = cases (goodWindow len c) refl
+  where
+    cases : (b : Bool) → goodWindow len c ≡ b → goodWindow len c ≡ false
+    cases true e = absurd (h (good-facts len c e))
+    cases false e = e
 
 -- the window after n bits is good too
 pub moved-good : (len : ℕ) (c : Cursor) (n : ℕ) → Good len c → n ≤ c .end - c .pos → Good len (moved c n)
@@ -128,6 +136,35 @@ bytes-refused r (suc j) s t e h = refl
 pub bytes-done : (j : ℕ) (s t : List ℕ) → j ≡ 0 → t ≡ bytesAfter j s t
 bytes-done zero s t e = refl
 bytes-done (suc j) s t e = absurd (omega arith)
+
+-- a window that is not good, or would not be, is left
+pub changed-bad : (len : ℕ) (c d : Cursor) → (Good len c → Good len d → ⊥) → changed len c d ≡ moves 13 c c
+unfolding changed
+changed-bad len c d h = rw (both (goodWindow len c) (goodWindow len d) refl refl)
+  where
+    both : (x y : Bool) → goodWindow len c ≡ x → goodWindow len d ≡ y → goodWindow len c && goodWindow len d ≡ false
+    both true true e f = absurd (h (good-facts len c e) (good-facts len d f))
+    both true false e f = rw (e, f)
+    both false y e f = rw e
+
+pub seek-bad : (len : ℕ) (c : Cursor) (q : Place) → (Good len c → ⊥) → moves 13 c c ≡ seekPlace len c q
+seek-bad len c (Place'.Bit p) h = sym (changed-bad len c (at c p) (λ g d. h g))
+seek-bad len c Place'.Before h = refl
+
+-- a peek through a window that is not good, at any place
+pub peek-bad : (s : List ℕ) (c : Cursor) (n : ℕ) (q : Place) → goodWindow (length s) c ≡ false → readRefused c 13 ≡ peekPlace s c q n
+unfolding peekAt readRefusal first
+peek-bad s c n (Place'.Bit p) e = rw e
+peek-bad s c n Place'.Before e = rw e
+
+-- a peek past the window's end
+pub peek-past : (s : List ℕ) (c : Cursor) (p n : ℕ) → Good (length s) c → c .end < p → readRefused c 1 ≡ peekAt s c p n
+unfolding peekAt readRefusal first
+peek-past s c p n g h = past (leb n 64)
+  where
+    past : (b : Bool) → readRefused c 1 ≡ reads (first (unless (goodWindow (length s) c) 13 ∷ unless b 1 ∷ unless (leb (c .start) p) 1 ∷ unless (leb (p + n) (c .end)) 1 ∷ [])) (getBits s p n) c c
+    past true = rw (good-test (length s) c g, le-leb (c .start) p (omega (arith, g)), lt-leb (p + n) (c .end) (omega arith))
+    past false = rw (good-test (length s) c g)
 
 -- ---- what was written is read back
 
