@@ -2,13 +2,14 @@
 // and the cursor goes in by value and comes back in the answer.
 use crate::refusal;
 use crate::refusal::Refusal;
+use crate::run;
 use crate::word;
 ghost use mathlib.Core.Path.{_≡_};
 ghost use Prim.Native.Nat.{_+_, _-_, _*_, _^_, _≤_, _<_};
 ghost use mathlib.Core.Bool.{true, false};
 ghost use lib.ListN.{length};
 ghost use lib.Dec.{ltb};
-ghost use Rattle.tetra_core.specs.BitBuffer.{goodWindow, readRefusal, readBits, peekAt, peekBitsPosoffset, writeRefusal, writeBits, written, windowCount, changed, seekRel, opened, at, remaining};
+ghost use Rattle.tetra_core.specs.BitBuffer.{goodWindow, readRefusal, readBits, peekAt, peekBitsPosoffset, writeRefusal, writeBits, written, runRefusal, writeRun, runWritten, copyRefusal, copyBits, copied, windowCount, changed, seekRel, opened, at, remaining};
 
 // A window over a slice and the bit that it has reached. It is good where start <= pos <= end, and end is at most 65,536 and
 // at most the bits of the slice.
@@ -204,6 +205,92 @@ pub fn write_bits(s: &mut [u8], c: Cursor, value: u64, num_bits: usize) -> Moved
     word::put_bits(s, pos, num_bits, value);
     Moved {
         cursor: moved_to(c, pos + num_bits),
+        answer: Outcome::Done,
+    }
+}
+
+// Why num_bits bits, all the same, are not written, or 0.
+fn run_refusal(len: usize, c: Cursor, num_bits: usize) -> u8
+    ensures { λ r. ⌜ r ≡ runRefusal len c «num_bits» ⌝ }
+{
+    if !good_window(len, c) {
+        return refusal::BAD_WINDOW;
+    }
+    if c.end - c.pos < num_bits {
+        return refusal::WRITE_PAST_END;
+    }
+    0
+}
+
+fn write_run(s: &mut [u8], c: Cursor, num_bits: usize, ones: bool) -> Moved
+    ensures { λ r. ⌜ (r ≡ writeRun (now (s .entry)) c «num_bits») × (now (s .exit) ≡ runWritten ones (now (s .entry)) c «num_bits») ⌝ }
+{
+    let number = run_refusal(s.len(), c, num_bits);
+    if number != 0 {
+        return Moved {
+            cursor: c,
+            answer: Outcome::Refused(number),
+        };
+    }
+    let pos = c.pos;
+    run::put_run(s, pos, num_bits, ones);
+    Moved {
+        cursor: moved_to(c, pos + num_bits),
+        answer: Outcome::Done,
+    }
+}
+
+// Writes num_bits zeroes, as many as the window has room for.
+pub fn write_zeroes(s: &mut [u8], c: Cursor, num_bits: usize) -> Moved
+    ensures { λ r. ⌜ (r ≡ writeRun (now (s .entry)) c «num_bits») × (now (s .exit) ≡ runWritten false (now (s .entry)) c «num_bits») ⌝ }
+{
+    write_run(s, c, num_bits, false)
+}
+
+// Writes num_bits ones, as many as the window has room for.
+pub fn write_ones(s: &mut [u8], c: Cursor, num_bits: usize) -> Moved
+    ensures { λ r. ⌜ (r ≡ writeRun (now (s .entry)) c «num_bits») × (now (s .exit) ≡ runWritten true (now (s .entry)) c «num_bits») ⌝ }
+{
+    write_run(s, c, num_bits, true)
+}
+
+// Why num_bits bits at c are not copied to d, or 0.
+fn copy_refusal(lent: usize, d: Cursor, lens: usize, c: Cursor, num_bits: usize) -> u8
+    ensures { λ r. ⌜ r ≡ copyRefusal lent d lens c «num_bits» ⌝ }
+{
+    if !good_window(lent, d) {
+        return refusal::BAD_WINDOW;
+    }
+    if !good_window(lens, c) {
+        return refusal::BAD_WINDOW;
+    }
+    if c.end - c.pos < num_bits {
+        return refusal::READ_PAST_END;
+    }
+    if d.end - d.pos < num_bits {
+        return refusal::WRITE_PAST_END;
+    }
+    0
+}
+
+// Copies num_bits bits of s at its cursor c into t at its cursor d.
+pub fn copy_bits(t: &mut [u8], d: Cursor, s: &[u8], c: Cursor, num_bits: usize) -> Copied
+    ensures { λ r. ⌜ (r ≡ copyBits (now (t .entry)) d (now (s .entry)) c «num_bits») × (now (t .exit) ≡ copied (now (t .entry)) d (now (s .entry)) c «num_bits») ⌝ }
+{
+    let number = copy_refusal(t.len(), d, s.len(), c, num_bits);
+    if number != 0 {
+        return Copied {
+            cursor: d,
+            source: c,
+            answer: Outcome::Refused(number),
+        };
+    }
+    let to = d.pos;
+    let from = c.pos;
+    run::copy_run(t, to, s, from, num_bits);
+    Copied {
+        cursor: moved_to(d, to + num_bits),
+        source: moved_to(c, from + num_bits),
         answer: Outcome::Done,
     }
 }
