@@ -222,6 +222,7 @@ fn run_refusal(len: usize, c: Cursor, num_bits: usize) -> u8
     0
 }
 
+// Writes num_bits bits, all ones or all zeroes.
 fn write_run(s: &mut [u8], c: Cursor, num_bits: usize, ones: bool) -> Moved
     ensures { λ r. ⌜ (r ≡ writeRun (now (s .entry)) c «num_bits») × (now (s .exit) ≡ runWritten ones (now (s .entry)) c «num_bits») ⌝ }
 {

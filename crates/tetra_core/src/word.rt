@@ -134,6 +134,18 @@ pub fn get_bits(s: &[u8], pos: usize, n: usize) -> u64
     word_field(load8(s, at), o, n)
 }
 
+// As get_bits, by two loads where the bits may lie in nine bytes.
+pub fn get_long(s: &[u8], pos: usize, n: usize) -> u64
+    requires { ⌜ (pos + n ≤ 8 * length (now s)) × (n ≤ 64) × (pos + n ≤ 65536) ⌝ }
+    ensures { λ r. ⌜ r ≡ getBits (now (s .entry)) pos n ⌝ }
+{
+    if n < 58 {
+        return get_bits(s, pos, n);
+    }
+    let k = n - 32;
+    join(get_bits(s, pos, k), 32, get_bits(s, pos + k, 32))
+}
+
 // The n low bits of v put into s from pos on.
 pub fn put_by_bytes(s: &mut [u8], pos: usize, n: usize, v: u64)
     requires { ⌜ (pos + n ≤ 8 * length (now s)) × (n ≤ 64) × (pos ≤ 65536) ⌝ }
