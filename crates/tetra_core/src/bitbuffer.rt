@@ -2,6 +2,7 @@
 // and the cursor goes in by value and comes back in the answer.
 use crate::refusal;
 use crate::refusal::Refusal;
+use crate::run;
 use crate::word;
 ghost use mathlib.Core.Path.{_≡_};
 ghost use Prim.Native.Nat.{_+_, _-_, _*_, _^_, _≤_, _<_};
@@ -9,7 +10,7 @@ ghost use mathlib.Core.Bool.{true, false};
 ghost use lib.ListN.{length};
 ghost use lib.IntN.{_+ℤ_};
 ghost use lib.Dec.{ltb};
-ghost use Rattle.tetra_core.specs.BitBuffer.{goodWindow, readRefusal, readBits, peekAt, peekBitsPosoffset, writeRefusal, writeBits, written, at, placeOf, signed, readRefused, moves, windowCount, changed, seekRel, opened};
+ghost use Rattle.tetra_core.specs.BitBuffer.{goodWindow, readRefusal, readBits, peekAt, peekBitsPosoffset, writeRefusal, writeBits, written, at, placeOf, signed, readRefused, moves, windowCount, changed, seekRel, opened, runRefusal, writeRun, runWritten, copyRefusal, copyBits, copied, remaining};
 
 // A window over a slice and the bit that it has reached. It is good where start <= pos <= end, and end is at most 65,536 and
 // at most the bits of the slice.
@@ -127,6 +128,17 @@ fn write_refusal(len: usize, c: Cursor, value: u64, num_bits: usize) -> u8
     0
 }
 
+// The cursor at another bit.
+fn moved_to(c: Cursor, p: usize) -> Cursor
+    ensures { λ r. ⌜ r ≡ at c p ⌝ }
+{
+    Cursor {
+        start: c.start,
+        pos: p,
+        end: c.end,
+    }
+}
+
 // A read that is refused leaves the cursor.
 fn refused(c: Cursor, number: u8) -> BitsRead
     ensures { λ r. ⌜ r ≡ readRefused c number ⌝ }
@@ -148,11 +160,7 @@ pub fn read_bits(s: &[u8], c: Cursor, num_bits: usize) -> BitsRead
     }
     let value = word::get_bits(s, pos, num_bits);
     BitsRead {
-        cursor: Cursor {
-            start: c.start,
-            pos: pos + num_bits,
-            end: c.end,
-        },
+        cursor: moved_to(c, pos + num_bits),
         answer: BitsAnswer::Value(value),
     }
 }
@@ -251,11 +259,7 @@ pub fn write_bits(s: &mut [u8], c: Cursor, value: u64, num_bits: usize) -> Moved
     let pos = c.pos;
     word::put_bits(s, pos, num_bits, value);
     Moved {
-        cursor: Cursor {
-            start: c.start,
-            pos: pos + num_bits,
-            end: c.end,
-        },
+        cursor: moved_to(c, pos + num_bits),
         answer: Outcome::Done,
     }
 }
@@ -265,6 +269,93 @@ pub fn write_bit(s: &mut [u8], c: Cursor, value: u8) -> Moved
     ensures { λ r. ⌜ (r ≡ writeBits (now (s .entry)) c value 1) × (now (s .exit) ≡ written (now (s .entry)) c value 1) ⌝ }
 {
     write_bits(s, c, value as u64, 1)
+}
+
+// Why num_bits bits, all the same, are not written, or 0.
+fn run_refusal(len: usize, c: Cursor, num_bits: usize) -> u8
+    ensures { λ r. ⌜ r ≡ runRefusal len c «num_bits» ⌝ }
+{
+    if !good_window(len, c) {
+        return refusal::BAD_WINDOW;
+    }
+    if c.end - c.pos < num_bits {
+        return refusal::WRITE_PAST_END;
+    }
+    0
+}
+
+// Writes num_bits bits, all ones or all zeroes.
+fn write_run(s: &mut [u8], c: Cursor, num_bits: usize, ones: bool) -> Moved
+    ensures { λ r. ⌜ (r ≡ writeRun (now (s .entry)) c «num_bits») × (now (s .exit) ≡ runWritten ones (now (s .entry)) c «num_bits») ⌝ }
+{
+    let number = run_refusal(s.len(), c, num_bits);
+    if number != 0 {
+        return Moved {
+            cursor: c,
+            answer: Outcome::Refused(number),
+        };
+    }
+    let pos = c.pos;
+    run::put_run(s, pos, num_bits, ones);
+    Moved {
+        cursor: moved_to(c, pos + num_bits),
+        answer: Outcome::Done,
+    }
+}
+
+// Writes num_bits zeroes, as many as the window has room for.
+pub fn write_zeroes(s: &mut [u8], c: Cursor, num_bits: usize) -> Moved
+    ensures { λ r. ⌜ (r ≡ writeRun (now (s .entry)) c «num_bits») × (now (s .exit) ≡ runWritten false (now (s .entry)) c «num_bits») ⌝ }
+{
+    write_run(s, c, num_bits, false)
+}
+
+// Writes num_bits ones, as many as the window has room for.
+pub fn write_ones(s: &mut [u8], c: Cursor, num_bits: usize) -> Moved
+    ensures { λ r. ⌜ (r ≡ writeRun (now (s .entry)) c «num_bits») × (now (s .exit) ≡ runWritten true (now (s .entry)) c «num_bits») ⌝ }
+{
+    write_run(s, c, num_bits, true)
+}
+
+// Why num_bits bits at c are not copied to d, or 0.
+fn copy_refusal(lent: usize, d: Cursor, lens: usize, c: Cursor, num_bits: usize) -> u8
+    ensures { λ r. ⌜ r ≡ copyRefusal lent d lens c «num_bits» ⌝ }
+{
+    if !good_window(lent, d) {
+        return refusal::BAD_WINDOW;
+    }
+    if !good_window(lens, c) {
+        return refusal::BAD_WINDOW;
+    }
+    if c.end - c.pos < num_bits {
+        return refusal::READ_PAST_END;
+    }
+    if d.end - d.pos < num_bits {
+        return refusal::WRITE_PAST_END;
+    }
+    0
+}
+
+// Copies num_bits bits of s at its cursor c into t at its cursor d.
+pub fn copy_bits(t: &mut [u8], d: Cursor, s: &[u8], c: Cursor, num_bits: usize) -> Copied
+    ensures { λ r. ⌜ (r ≡ copyBits (now (t .entry)) d (now (s .entry)) c «num_bits») × (now (t .exit) ≡ copied (now (t .entry)) d (now (s .entry)) c «num_bits») ⌝ }
+{
+    let number = copy_refusal(t.len(), d, s.len(), c, num_bits);
+    if number != 0 {
+        return Copied {
+            cursor: d,
+            source: c,
+            answer: Outcome::Refused(number),
+        };
+    }
+    let to = d.pos;
+    let from = c.pos;
+    run::copy_run(t, to, s, from, num_bits);
+    Copied {
+        cursor: moved_to(d, to + num_bits),
+        source: moved_to(c, from + num_bits),
+        answer: Outcome::Done,
+    }
 }
 
 // The bits from a to b of a good window.

@@ -3,4 +3,5 @@ pub mod address;
 pub mod bitbuffer;
 pub mod quantity;
 pub mod refusal;
+pub mod run;
 pub mod word;

@@ -4,7 +4,7 @@ ghost use Prim.Native.Nat.{_+_, _-_, _*_, _/_, _%_, _^_, _≤_, _<_, min};
 ghost use lib.ListN.{length};
 ghost use Rattle.tetra_core.specs.Bits.{getBits, putBits, bitsOfNat, patch};
 
-fn least(a: usize, b: usize) -> usize
+pub fn least(a: usize, b: usize) -> usize
     ensures { λ r. ⌜ r ≡ min a b ⌝ }
 {
     if a < b { a } else { b }
@@ -132,6 +132,18 @@ pub fn get_bits(s: &[u8], pos: usize, n: usize) -> u64
         return get_by_bytes(s, pos, n);
     }
     word_field(load8(s, at), o, n)
+}
+
+// As get_bits, by two loads where the bits may lie in nine bytes.
+pub fn get_long(s: &[u8], pos: usize, n: usize) -> u64
+    requires { ⌜ (pos + n ≤ 8 * length (now s)) × (n ≤ 64) × (pos + n ≤ 65536) ⌝ }
+    ensures { λ r. ⌜ r ≡ getBits (now (s .entry)) pos n ⌝ }
+{
+    if n < 58 {
+        return get_bits(s, pos, n);
+    }
+    let k = n - 32;
+    join(get_bits(s, pos, k), 32, get_bits(s, pos + k, 32))
 }
 
 // The n low bits of v put into s from pos on.

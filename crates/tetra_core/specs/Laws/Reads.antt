@@ -1,7 +1,7 @@
 -- Bits read at a place.
 use Prim.Native.Nat.{ℕ, _+_, _*_, _/_, _%_, _^_, _≤_, _<_}
 use mathlib.Core.Path.{_≡_, refl}
-use mathlib.Core.List.{List, _++_}
+use mathlib.Core.List.{[], List, _++_}
 use native.Mathlib.Nat.{mul-assoc, add-mul, add-assoc}
 use native.Mathlib.Omega.{arith}
 use lib.ListN.{length, take, drop, length-drop}
@@ -51,6 +51,10 @@ getBits-part s p o n m h =
     )
     (low (getBits s p o) n (getBits-lt s (p + o) n (omega arith)))
 
+pub bitsAt-zero : (s : List ℕ) (p : ℕ) → bitsAt s p 0 ≡ []
+unfolding bitsAt
+bitsAt-zero s p = refl
+
 pub getBits-zero : (s : List ℕ) (p : ℕ) → getBits s p 0 ≡ 0
-unfolding getBits bitsAt
-getBits-zero s p = val-nil
+unfolding getBits
+getBits-zero s p = rw (bitsAt-zero s p) val-nil

@@ -9,13 +9,14 @@ use lib.ListN.{length}
 use lib.Dec.{leb, ltb}
 use Rattle.tetra_core.specs.Bits.{getBits, bitsOfNat}
 use Rattle.tetra_core.specs.Refusal.{unless, first, first-none, passed}
-use Rattle.tetra_core.specs.BitBuffer.{goodWindow, at, moved, after, answer, bytesAfter, reads, readRefused, moves, changed, peekAt, peekPlace, seekPlace, readRefusal, readBits, writeRefusal, written}
+use Rattle.tetra_core.specs.BitBuffer.{goodWindow, at, moved, after, answer, bytesAfter, reads, readRefused, moves, changed, peekAt, peekPlace, seekPlace, readRefusal, readBits, writeRefusal, written, outcome, runRefusal, copyRefusal}
 use Rattle.tetra_core.specs.Laws.Writes.{length-putBits, getBits-putBits}
 use Rattle.tetra_core.specs.declared.bitbuffer.Cursor.{Cursor}
 use Rattle.tetra_core.specs.declared.bitbuffer.BitsAnswer.the-variants.{Value, Refused}
 use Rattle.tetra_core.specs.declared.bitbuffer.Outcome.the-variants as Outcome'
 use Rattle.tetra_core.specs.declared.bitbuffer.Place.{Place}
 use Rattle.tetra_core.specs.declared.bitbuffer.Place.the-variants as Place'
+use Rattle.tetra_core.specs.declared.bitbuffer.Copied.{Copied}
 
 -- ---- a good window
 
@@ -110,6 +111,37 @@ pub write-free : (len : ℕ) (c : Cursor) (v n : ℕ) → Writable len c v n →
 unfolding writeRefusal first
 write-free len c v n r = simp (good-test len c (r .good), le-leb _ _ (r .narrow), lt-ltb _ _ (r .holds), le-leb _ _ (r .room))
 
+pub record Fillable (len : ℕ) (c : Cursor) (n : ℕ) : Type 0 where
+  pub good : Good len c
+  pub room : n ≤ c .end - c .pos
+
+pub fillable : (len : ℕ) (c : Cursor) (n : ℕ) → runRefusal len c n ≡ 0 → Fillable len c n
+unfolding runRefusal
+fillable len c n e =
+    let w = first-none (unless (goodWindow len c) 13) _ e in
+    let x = first-none (unless (leb n (c .end - c .pos)) 2) _ (w .1) in
+    record { good = good-facts len c (passed _ 12 (w .0)); room = leb-true _ _ (passed _ 1 (x .0)) }
+
+pub record Copyable (lent : ℕ) (d : Cursor) (lens : ℕ) (c : Cursor) (n : ℕ) : Type 0 where
+  pub to : Good lent d
+  pub from : Good lens c
+  pub there : n ≤ c .end - c .pos
+  pub room : n ≤ d .end - d .pos
+
+pub copyable : (lent : ℕ) (d : Cursor) (lens : ℕ) (c : Cursor) (n : ℕ) → copyRefusal lent d lens c n ≡ 0 → Copyable lent d lens c n
+unfolding copyRefusal
+copyable lent d lens c n e =
+    let w = first-none (unless (goodWindow lent d) 13) _ e in
+    let x = first-none (unless (goodWindow lens c) 13) _ (w .1) in
+    let y = first-none (unless (leb n (c .end - c .pos)) 1) _ (x .1) in
+    let z = first-none (unless (leb n (d .end - d .pos)) 2) _ (y .1) in
+    record {
+      to = good-facts lent d (passed _ 12 (w .0));
+      from = good-facts lens c (passed _ 12 (x .0));
+      there = leb-true _ _ (passed _ 0 (y .0));
+      room = leb-true _ _ (passed _ 1 (z .0));
+    }
+
 -- ---- the forms of an answer: refused by r, or done
 
 pub read-refused : (r j v : ℕ) (c d : Cursor) → r ≡ j → (r ≡ 0 → ⊥)
@@ -128,6 +160,18 @@ move-refused r (suc j) c d e h = rw e
 pub move-done : (j : ℕ) (c d : Cursor) → j ≡ 0 → record { cursor = d; answer = Outcome'.Done } ≡ moves j c d
 move-done zero c d e = refl
 move-done (suc j) c d e = absurd (omega arith)
+
+pub copy-refused : (r j : ℕ) (d d' c c' : Cursor) → r ≡ j → (r ≡ 0 → ⊥)
+    → _≡_ {A = Copied} (record { cursor = d; source = c; answer = Outcome'.Refused r })
+    (record { cursor = after j d d'; source = after j c c'; answer = outcome j })
+copy-refused r zero d d' c c' e h = absurd (h e)
+copy-refused r (suc j) d d' c c' e h = rw e
+
+pub copy-done : (j : ℕ) (d d' c c' : Cursor) → j ≡ 0
+    → _≡_ {A = Copied} (record { cursor = d'; source = c'; answer = Outcome'.Done })
+    (record { cursor = after j d d'; source = after j c c'; answer = outcome j })
+copy-done zero d d' c c' e = refl
+copy-done (suc j) d d' c c' e = absurd (omega arith)
 
 pub bytes-refused : (r j : ℕ) (s t : List ℕ) → r ≡ j → (r ≡ 0 → ⊥) → s ≡ bytesAfter j s t
 bytes-refused r zero s t e h = absurd (h e)

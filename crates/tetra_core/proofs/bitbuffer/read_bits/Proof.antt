@@ -19,12 +19,12 @@ returns c = rw (c .refused .ensures) (read-refused _ _ _ _ _ (c .before .before 
 get-bits-requires : tie.Need-get-bits-requires
 get-bits-requires c κs = let r = readable _ _ _ _ (none c) in let g = r .good in omega arith
 
-add-t7 : tie.Need-add-t7
-add-t7 c = let r = readable _ _ _ _ (none (c .before)) in let g = r .good in omega arith
+add-moved-to : tie.Need-add-moved-to
+add-moved-to c = let r = readable _ _ _ _ (none (c .before)) in let g = r .good in omega arith
 
 returns-2 : tie.Need-returns-2
 unfolding readBits
-returns-2 c = rw (c .get-bits .ensures) (read-done _ _ _ _ (none (c .before)))
+returns-2 c = rw (c .moved-to .ensures, c .before .get-bits .ensures) (read-done _ _ _ _ (none (c .before .before)))
 
 pub read-bits-spec : {M : Type 1} → statement M
-read-bits-spec = tie.close (tie.spec (λ c κs. search needs) (λ c κs. search needs) returns get-bits-requires add-t7 returns-2)
+read-bits-spec = tie.close (tie.spec (λ c κs. search needs) (λ c κs. search needs) returns get-bits-requires add-moved-to (λ c κs. search needs) returns-2)

@@ -21,16 +21,16 @@ returns c =
 put-bits-requires : tie.Need-put-bits-requires
 put-bits-requires c κs = let r = writable _ _ _ _ (none (c .before)) in let g = r .good in omega arith
 
-add-t7 : tie.Need-add-t7
-add-t7 c = let r = writable _ _ _ _ (none (c .before .before .before .before)) in let g = r .good in omega arith
+add-moved-to : tie.Need-add-moved-to
+add-moved-to c = let r = writable _ _ _ _ (none (c .before .before .before .before)) in let g = r .good in omega arith
 
 returns-2 : tie.Need-returns-2
 unfolding writeBits written
 returns-2 c =
-    let w = c .before .before in
+    let w = c .before .before .before in
     let e = none (w .before .before) in
-    (move-done _ _ _ e, w .put-bits .ensures ∙ bytes-done _ _ _ e)
+    (rw (c .moved-to .ensures) (move-done _ _ _ e), w .put-bits .ensures ∙ bytes-done _ _ _ e)
 
 pub write-bits-spec : {M : Type 1} → statement M
 write-bits-spec =
-    tie.close (tie.spec (λ c κs. search needs) returns put-bits-requires add-t7 (λ c. search needs) returns-2)
+    tie.close (tie.spec (λ c κs. search needs) returns put-bits-requires add-moved-to (λ c κs. search needs) (λ c. search needs) returns-2)
