@@ -1,10 +1,10 @@
 -- What the code's shifts and masks are in plain arithmetic. `a << k` is `a * 2 ^ k % 2 ^ 64`, `a >> k` is `a / 2 ^ k`.
 use Prim.Native.Nat.{ℕ, _+_, _-_, _*_, _/_, _%_, _^_, _≤_, _<_}
 use mathlib.Core.Path.{_≡_, sym, ap, _∙_}
-use native.Mathlib.Nat.{one-mul, mod-lt, mod-eq-of-lt, lt-of-le-of-lt, div-mul-le-self}
+use native.Mathlib.Nat.{add-comm, add-mul, mul-assoc, one-mul, mod-lt, mod-eq-of-lt, lt-of-le-of-lt, div-mul-le-self}
 use native.Mathlib.Omega.{arith}
 use lib.Bits.{bitAnd, bitOr, and-mask, or-shifted}
-use lib.Pow.{pow-pos, pow-lt, pow-add, shl-exact, field, shr-shr, shl-shr, split, mod-pow-add, shr-lt}
+use lib.Pow.{shl-lt, pow-pos, pow-lt, pow-add, shl-exact, field, shr-shr, shl-shr, split, mod-pow-add, shr-lt}
 use lib.Arith.{digits-lt}
 use Rattle.tetra_core.specs.Bits.{patch}
 
@@ -34,9 +34,11 @@ patch-is b k m v r t hb h er et =
     (or-shifted (b / 2 ^ (k + m)) (k + m) (v % 2 ^ k * 2 ^ m + b % 2 ^ m)
     (rw (pow-add 2 k m) (digits-lt (mod-lt v (pow-pos k)) (mod-lt b (pow-pos m)))))
 
--- (a << k) | b
-pub join-is : (a k b : ℕ) → k ≤ 32 → a < 2 ^ k → b < 2 ^ k → bitOr ((a * 2 ^ k) % 2 ^ 64) b ≡ a * 2 ^ k + b
-join-is a k b h ha hb = rw (shl-exact {a = a} k k 64 ha (omega arith)) (or-shifted a k b hb)
+-- (a << (k + n)) | (b << k)
+pub join-is : (a b n k : ℕ) → b < 2 ^ n → bitOr (a * 2 ^ (k + n)) (b * 2 ^ k) ≡ (a * 2 ^ n + b) * 2 ^ k
+join-is a b n k h =
+    rw (add-comm k n, or-shifted a (n + k) (b * 2 ^ k) (shl-lt n k h), pow-add 2 n k, ← mul-assoc)
+    (sym (add-mul (a * 2 ^ n) b (2 ^ k)))
 
 -- (x << o) >> (64 - n)
 pub within-is : (x o n : ℕ) → o + n ≤ 64 → (x * 2 ^ o) % 2 ^ 64 / 2 ^ (64 - n) ≡ x / 2 ^ (64 - o - n) % 2 ^ n

@@ -1,5 +1,5 @@
 -- What the code does a byte or a word at a time, in terms of bits.
-use Prim.Native.Nat.{ℕ, suc, _+_, _-_, _*_, _/_, _%_, _^_, _≤_, _<_}
+use Prim.Native.Nat.{ℕ, suc, _+_, _*_, _/_, _%_, _^_, _≤_, _<_}
 use mathlib.Core.Path.{_≡_, refl, sym, ap, _∙_}
 use mathlib.Core.List.{List, _∷_, _++_, append-assoc}
 use mathlib.Core.Bool.{Bool}
@@ -7,13 +7,15 @@ use native.Mathlib.Nat.{add-zero, mod-eq-of-lt, mul-assoc, add-mul, add-assoc, p
 use native.Mathlib.Omega.{arith}
 use lib.ListN.{length, getD, take, drop, set, length-append, take-append-drop}
 use lib.Seq.{length-take-le, take-at, drop-at, drop-cons, set-split, split-at, drop-drop}
-use lib.Pow.{pow-add, high, low, shr-shr, shr-mod}
+use lib.Bits.{bitOr}
+use lib.Pow.{pow-add, high, low, shr-mod}
 use lib.Arith.{digits-lt}
+use Rattle.tetra_core.proofs.Shifts.{join-is}
 use Rattle.tetra_core.specs.Bits.{val, bitsOfNat, bitsOf, pack, splice, bitsAt, getBits, putBits, patch, Bytes}
 use Rattle.tetra_core.specs.Laws.Values.{val-append, val-lt, length-bitsOfNat, val-bitsOfNat, bitsOfNat-val, bitsOfNat-add}
 use Rattle.tetra_core.specs.Laws.Bytes.{bitsOf-cons, length-bitsOf, bitsOf-append, drop-bitsOf, bitsOf-inj, bytes-set}
 use Rattle.tetra_core.specs.Laws.Splice.{splice-mid}
-use Rattle.tetra_core.specs.Laws.Reads.{at-is, get-is, bitsAt-add, length-bitsAt, getBits-add, getBits-part}
+use Rattle.tetra_core.specs.Laws.Reads.{getBits-lt, at-is, get-is, bitsAt-add, length-bitsAt, getBits-add, getBits-part}
 use Rattle.tetra_core.specs.Laws.Writes.{put-is, length-putBits, bytes-putBits, bitsOf-putBits, putBits-append}
 
 pub patch-def : (b k m v : ℕ) → patch b k m v ≡ b / 2 ^ (k + m) * 2 ^ (k + m) + (v % 2 ^ k * 2 ^ m + b % 2 ^ m)
@@ -41,20 +43,11 @@ bitsAt-byte s i o k m e h =
     (take-at (bitsOfNat k (getD s i 0 / 2 ^ m)) _ k (length-bitsOfNat k _))
 
 -- a read goes on by k bits within one byte
-pub getBits-step : (s : List ℕ) (p j k m : ℕ) → (p + j) % 8 + (k + m) ≡ 8 → (p + j) / 8 < length s
-    → getBits s p (j + k) ≡ getBits s p j * 2 ^ k + getD s ((p + j) / 8) 0 / 2 ^ m % 2 ^ k
+pub getBits-step : (s : List ℕ) (p j i o k m : ℕ) → p + j ≡ 8 * i + o → o + (k + m) ≡ 8 → i < length s
+    → getBits s p (j + k) ≡ getBits s p j * 2 ^ k + getD s i 0 / 2 ^ m % 2 ^ k
 unfolding getBits
-getBits-step s p j k m e h =
-    rw (bitsAt-add s p j k, val-append, here, length-bitsOfNat, val-bitsOfNat)
-  where
-    i : ℕ
-    i = (p + j) / 8
-
-    place : p + j ≡ 8 * ((p + j) / 8) + (p + j) % 8
-    place = omega arith
-
-    here : bitsAt s (p + j) k ≡ bitsOfNat k (getD s ((p + j) / 8) 0 / 2 ^ m)
-    here = ap (λ (q : ℕ). bitsAt s q k) place ∙ bitsAt-byte s ((p + j) / 8) ((p + j) % 8) k m e h
+getBits-step s p j i o k m place e h =
+    rw (bitsAt-add s p j k, val-append, place, bitsAt-byte s i o k m e h, length-bitsOfNat, val-bitsOfNat)
 
 -- one byte
 pub getBits-byte : (s : List ℕ) (i : ℕ) → i < length s → getD s i 0 < 256 → getBits s (8 * i) 8 ≡ getD s i 0
@@ -62,23 +55,17 @@ unfolding getBits
 getBits-byte s i h b =
     ap val (rw (add-zero, pow-zero, div-one) at (bitsAt-byte s i 0 8 0 (omega arith) h)) ∙ val-bitsOfNat 8 (getD s i 0) ∙ mod-eq-of-lt b
 
--- n bytes and n bytes more
-pub getBits-double : (s : List ℕ) (i n : ℕ) → i + (n + n) ≤ length s
-    → getBits s (8 * i) (8 * n + 8 * n) ≡ getBits s (8 * i) (8 * n) * 2 ^ (8 * n) + getBits s (8 * (i + n)) (8 * n)
-getBits-double s i n h = rw (mul-add 8 i n) (getBits-add s (8 * i) (8 * n) (8 * n) (omega arith))
+-- n bytes and n bytes more, k bits up
+pub getBits-double : (s : List ℕ) (i n k : ℕ) → i + (n + n) ≤ length s
+    → bitOr (getBits s (8 * i) (8 * n) * 2 ^ (k + 8 * n)) (getBits s (8 * (i + n)) (8 * n) * 2 ^ k) ≡ getBits s (8 * i) (8 * n + 8 * n) * 2 ^ k
+getBits-double s i n k h =
+    rw (getBits-add s (8 * i) (8 * n) (8 * n) (omega arith), mul-add 8 i n)
+    (join-is (getBits s (8 * i) (8 * n)) (getBits s (8 * i + 8 * n) (8 * n)) (8 * n) k (getBits-lt s (8 * i + 8 * n) (8 * n) (omega arith)))
 
--- a read within the eight bytes from the one where it starts
-pub getBits-word : (s : List ℕ) (p n : ℕ) → p % 8 + n ≤ 64 → p / 8 + 8 ≤ length s
-    → getBits s (8 * (p / 8)) 64 / 2 ^ (64 - p % 8 - n) % 2 ^ n ≡ getBits s p n
-getBits-word s p n h l =
-    ap (λ (k : ℕ). getBits s (8 * (p / 8)) k / 2 ^ (64 - p % 8 - n) % 2 ^ n) whole
-    ∙ getBits-part s (8 * (p / 8)) (p % 8) n (64 - p % 8 - n) (omega arith) ∙ ap (λ (q : ℕ). getBits s q n) place
-  where
-    whole : 64 ≡ p % 8 + (n + (64 - p % 8 - n))
-    whole = omega arith
-
-    place : 8 * (p / 8) + p % 8 ≡ p
-    place = omega arith
+-- a read within eight bytes
+pub getBits-word : (s : List ℕ) (i o n m : ℕ) → o + (n + m) ≡ 64 → i + 8 ≤ length s
+    → getBits s (8 * i) 64 / 2 ^ m % 2 ^ n ≡ getBits s (8 * i + o) n
+getBits-word s i o n m e h = ap (λ (k : ℕ). getBits s (8 * i) k / 2 ^ m % 2 ^ n) (sym e) ∙ getBits-part s (8 * i) o n m (omega arith)
 
 pub patch-val : (o k m b v : ℕ) → o + (k + m) ≡ 8 → b < 256
     → patch b k m v ≡ val (bitsOfNat o (b / 2 ^ (k + m)) ++ (bitsOfNat k v ++ bitsOfNat m b))
@@ -153,37 +140,21 @@ putBits-byte s i o k m v hs e h =
     old : splice (8 * i + o) (bitsOfNat k v) (bitsOf s) ≡ A ++ ((hi ++ (bitsOfNat k v ++ lo)) ++ R)
     old = rw shape (splice-mid (8 * i + o) (A ++ hi) K (bitsOfNat k v) (lo ++ R) lenA lenK ∙ simp append-assoc)
 
--- a write goes on by k bits within one byte
-pub putBits-step : (s : List ℕ) (p : ℕ) (xs : List Bool) (j k m v : ℕ) → length xs ≡ j → p + j ≤ 8 * length s
-    → (p + j) % 8 + (k + m) ≡ 8 → (p + j) / 8 < length s
-    → set (putBits s p xs) ((p + j) / 8) (patch (getD (putBits s p xs) ((p + j) / 8) 0) k m v) ≡ putBits s p (xs ++ bitsOfNat k v)
-putBits-step s p xs j k m v l f e h =
-    putBits-byte (putBits s p xs) ((p + j) / 8) ((p + j) % 8) k m v (bytes-putBits s p xs) e (rw length-putBits h)
-    ∙ ap (λ (q : ℕ). putBits (putBits s p xs) q (bitsOfNat k v)) place
-    ∙ putBits-append s p xs (bitsOfNat k v) (rw l f)
+-- a write of the low bits of v, of which all but the last k are done, goes on within one byte
+pub putBits-step : (s₀ s : List ℕ) (p j i o k m v : ℕ) → s ≡ putBits s₀ p (bitsOfNat j (v / 2 ^ k)) → p + j ≤ 8 * length s₀
+    → p + j ≡ 8 * i + o → o + (k + m) ≡ 8 → i < length s₀
+    → set s i (patch (getD s i 0) k m v) ≡ putBits s₀ p (bitsOfNat (j + k) v)
+putBits-step s₀ s p j i o k m v es f place e h =
+    rw (es, bitsOfNat-add j k v)
+    (putBits-byte (putBits s₀ p xs) i o k m v (bytes-putBits s₀ p xs) e (rw length-putBits h)
+    ∙ ap (λ (q : ℕ). putBits (putBits s₀ p xs) q (bitsOfNat k v)) (omega (arith, l))
+    ∙ putBits-append s₀ p xs (bitsOfNat k v) (omega (arith, l)))
   where
-    place : 8 * ((p + j) / 8) + (p + j) % 8 ≡ p + length xs
-    place = omega arith
+    xs : List Bool
+    xs = bitsOfNat j (v / 2 ^ k)
 
--- a write of the n low bits of v, of which the first j are done, goes on by k
-pub putBits-turn : (s₀ s : List ℕ) (p n j k m v : ℕ) → s ≡ putBits s₀ p (bitsOfNat j (v / 2 ^ (n - j)))
-    → j + k ≤ n → p + n ≤ 8 * length s₀ → (p + j) % 8 + (k + m) ≡ 8 → (p + j) / 8 < length s₀
-    → set s ((p + j) / 8) (patch (getD s ((p + j) / 8) 0) k m (v / 2 ^ (n - j - k))) ≡ putBits s₀ p (bitsOfNat (j + k) (v / 2 ^ (n - (j + k))))
-putBits-turn s₀ s p n j k m v es l f e h =
-    rw es (putBits-step s₀ p (bitsOfNat j (v / 2 ^ (n - j))) j k m (v / 2 ^ (n - j - k)) (length-bitsOfNat j _) (omega arith) e h
-    ∙ ap (λ (xs : List Bool). putBits s₀ p xs) join)
-  where
-    r : ℕ
-    r = n - (j + k)
-
-    whole : n - j ≡ r + k
-    whole = omega arith
-
-    part : n - j - k ≡ r
-    part = omega arith
-
-    join : bitsOfNat j (v / 2 ^ (n - j)) ++ bitsOfNat k (v / 2 ^ (n - j - k)) ≡ bitsOfNat (j + k) (v / 2 ^ (n - (j + k)))
-    join = rw (part, whole, ← shr-shr v r k) (sym (bitsOfNat-add j k (v / 2 ^ r)))
+    l : length xs ≡ j
+    l = length-bitsOfNat j (v / 2 ^ k)
 
 pub putBits-one : (s : List ℕ) (i x : ℕ) → Bytes s → i < length s → set s i (x % 256) ≡ putBits s (8 * i) (bitsOfNat 8 x)
 putBits-one s i x hs h =

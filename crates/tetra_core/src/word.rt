@@ -64,47 +64,40 @@ pub fn get_by_bytes(s: &[u8], pos: usize, n: usize) -> u64
     acc
 }
 
-// One, two, four and eight bytes from at on, as a number.
-fn load1(s: &[u8], at: usize) -> u64
-    requires { ⌜ at < length (now s) ⌝ }
-    ensures { λ r. ⌜ r ≡ getBits (now (s .entry)) (8 * at) 8 ⌝ }
+// One, two and four bytes from at on as a number, k bits up. Each byte is shifted once, so that the compiler makes one load of eight.
+fn load1(s: &[u8], at: usize, k: usize) -> u64
+    requires { ⌜ (at < length (now s)) × (k ≤ 56) ⌝ }
+    ensures { λ r. ⌜ r ≡ getBits (now (s .entry)) (8 * at) 8 * 2 ^ k ⌝ }
 {
-    wide(s[at])
+    wide(s[at]) << k
 }
 
-fn load2(s: &[u8], at: usize) -> u64
-    requires { ⌜ at + 2 ≤ length (now s) ⌝ }
-    ensures { λ r. ⌜ r ≡ getBits (now (s .entry)) (8 * at) 16 ⌝ }
+fn load2(s: &[u8], at: usize, k: usize) -> u64
+    requires { ⌜ (at + 2 ≤ length (now s)) × (k ≤ 48) ⌝ }
+    ensures { λ r. ⌜ r ≡ getBits (now (s .entry)) (8 * at) 16 * 2 ^ k ⌝ }
 {
-    join(load1(s, at), 8, load1(s, at + 1))
+    load1(s, at, k + 8) | load1(s, at + 1, k)
 }
 
-fn load4(s: &[u8], at: usize) -> u64
-    requires { ⌜ at + 4 ≤ length (now s) ⌝ }
-    ensures { λ r. ⌜ r ≡ getBits (now (s .entry)) (8 * at) 32 ⌝ }
+fn load4(s: &[u8], at: usize, k: usize) -> u64
+    requires { ⌜ (at + 4 ≤ length (now s)) × (k ≤ 32) ⌝ }
+    ensures { λ r. ⌜ r ≡ getBits (now (s .entry)) (8 * at) 32 * 2 ^ k ⌝ }
 {
-    join(load2(s, at), 16, load2(s, at + 2))
+    load2(s, at, k + 16) | load2(s, at + 2, k)
 }
 
+// Eight bytes from at on as a number.
 fn load8(s: &[u8], at: usize) -> u64
     requires { ⌜ at + 8 ≤ length (now s) ⌝ }
     ensures { λ r. ⌜ r ≡ getBits (now (s .entry)) (8 * at) 64 ⌝ }
 {
-    join(load4(s, at), 32, load4(s, at + 4))
+    load4(s, at, 32) | load4(s, at + 4, 0)
 }
 
 fn wide(x: u8) -> u64
     ensures { λ r. ⌜ r ≡ x ⌝ }
 {
     x as u64
-}
-
-// Two numbers of k bits as one.
-fn join(a: u64, k: usize, b: u64) -> u64
-    requires { ⌜ (k ≤ 32) × (a < 2 ^ k) × (b < 2 ^ k) ⌝ }
-    ensures { λ r. ⌜ r ≡ a * 2 ^ k + b ⌝ }
-{
-    (a << k) | b
 }
 
 // The n bits of x after its o high bits.
@@ -115,23 +108,49 @@ fn word_field(x: u64, o: usize, n: usize) -> u64
     (x << o) >> (64 - n)
 }
 
-// As get_by_bytes, by one load of eight bytes where they are there.
+// Where the eight bytes start in which the bit pos is: at its own byte, or the last eight.
+fn word_start(len: usize, pos: usize) -> usize
+    requires { ⌜ 8 ≤ len ⌝ }
+    ensures { λ r. ⌜ r ≡ min (pos / 8) (len - 8) ⌝ }
+{
+    least(pos / 8, len - 8)
+}
+
+// The n bits from bit o on of the eight bytes from at on.
+fn get_in_word(s: &[u8], at: usize, o: usize, n: usize) -> u64
+    requires { ⌜ (at + 8 ≤ length (now s)) × (o + n ≤ 64) × (0 < n) ⌝ }
+    ensures { λ r. ⌜ r ≡ getBits (now (s .entry)) (8 * at + o) n ⌝ }
+{
+    word_field(load8(s, at), o, n)
+}
+
+// The same where the bits end in the ninth byte.
+fn get_nine(s: &[u8], at: usize, o: usize, n: usize) -> u64
+    requires { ⌜ (at + 8 < length (now s)) × (64 < o + n) × (o < 8) × (n ≤ 64) ⌝ }
+    ensures { λ r. ⌜ r ≡ getBits (now (s .entry)) (8 * at + o) n ⌝ }
+{
+    let k = o + n - 64;
+    let high = get_in_word(s, at, o, 64 - o);
+    push(high, k, byte_field(s[at + 8], k, 8 - k))
+}
+
+// As get_by_bytes, by whole words where there are eight bytes.
 pub fn get_bits(s: &[u8], pos: usize, n: usize) -> u64
     requires { ⌜ (pos + n ≤ 8 * length (now s)) × (n ≤ 64) × (pos ≤ 65536) ⌝ }
     ensures { λ r. ⌜ r ≡ getBits (now (s .entry)) pos n ⌝ }
 {
-    let at = pos / 8;
-    let o = pos % 8;
     if n == 0 {
         return 0;
     }
+    if s.len() < 8 {
+        return get_by_bytes(s, pos, n);
+    }
+    let at = word_start(s.len(), pos);
+    let o = pos - 8 * at;
     if 64 < o + n {
-        return get_by_bytes(s, pos, n);
+        return get_nine(s, at, o, n);
     }
-    if s.len() < at + 8 {
-        return get_by_bytes(s, pos, n);
-    }
-    word_field(load8(s, at), o, n)
+    get_in_word(s, at, o, n)
 }
 
 // As get_bits, by two loads where the bits may lie in nine bytes.
@@ -212,25 +231,43 @@ fn word_replaced(x: u64, o: usize, n: usize, v: u64) -> u64
     (x - (old << m)) + (v << m)
 }
 
-// As put_by_bytes, by one load and one store of eight bytes where they are there.
+// The number v put into the n bits from bit o on of the eight bytes from at on.
+fn put_in_word(s: &mut [u8], at: usize, o: usize, n: usize, v: u64)
+    requires { ⌜ (at + 8 ≤ length (now s)) × (o + n ≤ 64) × (0 < n) × (v < 2 ^ n) ⌝ }
+    ensures { λ r. ⌜ now (s .exit) ≡ putBits (now (s .entry)) (8 * at + o) (bitsOfNat n v) ⌝ }
+{
+    let x = load8(s, at);
+    store8(s, at, word_replaced(x, o, n, v));
+}
+
+// The same where the bits end in the ninth byte.
+fn put_nine(s: &mut [u8], at: usize, o: usize, n: usize, v: u64)
+    requires { ⌜ (at + 8 < length (now s)) × (64 < o + n) × (o < 8) × (n ≤ 64) × (v < 2 ^ n) ⌝ }
+    ensures { λ r. ⌜ now (s .exit) ≡ putBits (now (s .entry)) (8 * at + o) (bitsOfNat n v) ⌝ }
+{
+    let k = o + n - 64;
+    put_in_word(s, at, o, 64 - o, v >> k);
+    let b = s[at + 8];
+    s[at + 8] = byte_replaced(b, k, 8 - k, v);
+}
+
+// As put_by_bytes, by whole words where there are eight bytes.
 pub fn put_bits(s: &mut [u8], pos: usize, n: usize, v: u64)
     requires { ⌜ (pos + n ≤ 8 * length (now s)) × (n ≤ 64) × (pos ≤ 65536) × (v < 2 ^ n) ⌝ }
     ensures { λ r. ⌜ now (s .exit) ≡ putBits (now (s .entry)) pos (bitsOfNat n v) ⌝ }
 {
-    let at = pos / 8;
-    let o = pos % 8;
     if n == 0 {
+        return;
+    }
+    if s.len() < 8 {
         put_by_bytes(s, pos, n, v);
         return;
     }
+    let at = word_start(s.len(), pos);
+    let o = pos - 8 * at;
     if 64 < o + n {
-        put_by_bytes(s, pos, n, v);
+        put_nine(s, at, o, n, v);
         return;
     }
-    if s.len() < at + 8 {
-        put_by_bytes(s, pos, n, v);
-        return;
-    }
-    let x = load8(s, at);
-    store8(s, at, word_replaced(x, o, n, v));
+    put_in_word(s, at, o, n, v);
 }

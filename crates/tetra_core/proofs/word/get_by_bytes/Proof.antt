@@ -5,7 +5,7 @@ use denote.Ref.{now}
 use borrow.Author.Needs.{needs}
 use native.Mathlib.Omega.{arith}
 use mathlib.Core.Path.{_≡_, sym, ap, _∙_}
-use Prim.Native.Nat.{ℕ, _+_, _-_, _*_, _%_, _^_, _≤_}
+use Prim.Native.Nat.{ℕ, _+_, _-_, _*_, _/_, _%_, _^_, _≤_}
 use Rattle.tetra_core.specs.Bits.{getBits}
 use Rattle.tetra_core.proofs.Words.{getBits-step}
 use Rattle.tetra_core.specs.Laws.Reads.{getBits-lt, getBits-zero}
@@ -30,8 +30,10 @@ step c =
     let a = c .before .before .before .before .before .before .args in
     let l = c .before .before .before .before .loop in
     let k = c .before .before .least .result in
+    let at = (a .pos + l .done) / 8 in
+    let o = (a .pos + l .done) % 8 in
     ap₂ (λ (u x : ℕ). u * 2 ^ k + x) (l .inv .1) (c .byte-field .ensures)
-    ∙ sym (getBits-step (now (a .s)) (a .pos) (l .done) k (8 - (a .pos + l .done) % 8 - k) (omega arith) (omega arith))
+    ∙ sym (getBits-step (now (a .s)) (a .pos) (l .done) at o k (8 - o - k) (omega arith) (omega arith) (omega arith))
 
 push-requires : tie.Need-push-requires Inv-loop μ-loop
 push-requires c κs =

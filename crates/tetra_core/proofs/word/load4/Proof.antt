@@ -1,25 +1,14 @@
 use native.Mathlib.Omega.{arith}
 use denote.Ref.{now}
-use mathlib.Core.Path.{sym, ap₂, _∙_}
-use Prim.Native.Nat.{ℕ, _+_, _*_, _^_}
-use borrow.Author.Needs.{needs}
 use Rattle.tetra_core.proofs.Words.{getBits-double}
-use Rattle.tetra_core.specs.Laws.Reads.{getBits-lt}
+use borrow.Author.Needs.{needs}
 use Rattle.tetra_core.proofs.word.load4.Statement.{statement}
 use Rattle.tetra_core.proofs.word.load4.Tie as tie
 
-join-requires : tie.Need-join-requires
-join-requires c κs = (
-  omega arith,
-  rw (c .before .load2 .ensures) (getBits-lt _ _ 16 (omega arith)),
-  rw (c .load22 .ensures) (getBits-lt _ _ 16 (omega arith)),
-)
-
 returns : tie.Need-returns
 returns c =
-    let a = c .before .before .before .before .args in
-    c .join .ensures ∙ ap₂ (λ (x y : ℕ). x * 2 ^ 16 + y) (c .before .before .load2 .ensures) (c .before .load22 .ensures)
-    ∙ sym (getBits-double (now (a .s)) (a .at) 2 (omega arith))
+    let a = c .before .before .before .args in
+    rw (c .before .load2 .ensures, c .load22 .ensures) (getBits-double (now (a .s)) (a .at) 2 (a .k) (omega arith))
 
 pub load4-spec : {M : Type 1} → statement M
-load4-spec = tie.close (tie.spec (λ c κs. search needs) (λ c. search needs) (λ c κs. search needs) join-requires returns)
+load4-spec = tie.close (tie.spec (λ c. search needs) (λ c κs. search needs) (λ c. search needs) (λ c κs. search needs) returns)

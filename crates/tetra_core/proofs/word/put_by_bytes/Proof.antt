@@ -1,15 +1,16 @@
 use mathlib.Core.List.{List}
 use mathlib.Core.Bool.{Bool}
 use native.Mathlib.Nat.{pow-zero, div-one}
-use lib.ListN.{set, length-set}
+use lib.ListN.{length-set}
+use lib.Pow.{shr-shr}
 use denote.Ref.{now}
 use borrow.Author.Needs.{needs}
 use native.Mathlib.Omega.{arith}
 use mathlib.Core.Path.{_≡_, refl, sym, ap, _∙_}
-use Prim.Native.Nat.{ℕ, _+_, _-_, _/_, _%_, _^_, _≤_}
+use Prim.Native.Nat.{_+_, _-_, _/_, _%_, _^_, _≤_}
 use lib.ListN.{length}
 use Rattle.tetra_core.specs.Bits.{putBits, bitsOfNat}
-use Rattle.tetra_core.proofs.Words.{putBits-turn}
+use Rattle.tetra_core.proofs.Words.{putBits-step}
 use Rattle.tetra_core.specs.Laws.Values.{bits-zero}
 use Rattle.tetra_core.specs.Laws.Writes.{putBits-nil}
 use Rattle.tetra_core.proofs.word.put_by_bytes.Statement.{statement}
@@ -40,12 +41,17 @@ loop-again : tie.Need-loop-again Inv-loop μ-loop
 loop-again c =
     let a = c .before .before .before .before .before .before .args in
     let l = c .before .before .before .before .loop in
-    let k = c .before .before .least .result in (
+    let k = c .before .before .least .result in
+    let r = a .n - l .done - k in
+    let at = (a .pos + l .done) / 8 in
+    let o = (a .pos + l .done) % 8 in
+    let left : a .n - l .done ≡ r + k = omega arith in
+    let same : a .n - (l .done + k) ≡ r = omega arith in (
       omega arith,
       simp length-set (l .inv .1),
-      ap (λ (b : ℕ). set (l .s) ((a .pos + l .done) / 8) b) (c .byte-replaced .ensures)
-          ∙ putBits-turn (now (a .s)) (l .s) (a .pos) (a .n) (l .done) k (8 - (a .pos + l .done) % 8 - k) (a .v) (l .inv .2)
-          (omega arith) (omega arith) (omega arith) (omega arith),
+      rw (c .byte-replaced .ensures, same)
+          (putBits-step (now (a .s)) (l .s) (a .pos) (l .done) at o k (8 - o - k) (a .v / 2 ^ r)
+          (rw (shr-shr (a .v) r k, ← left) (l .inv .2)) (omega arith) (omega arith) (omega arith) (omega arith)),
     )
 
 same-length : tie.Need-same-length Inv-loop μ-loop
