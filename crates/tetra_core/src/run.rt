@@ -37,7 +37,7 @@ pub fn copy_run(t: &mut [u8], tpos: usize, s: &[u8], spos: usize, n: usize)
     while done < n {
         let p = tpos + done;
         let k = word::least(n - done, 64 - p % 8);
-        let x = word::get_long(s, spos + done, k);
+        let x = word::get_bits(s, spos + done, k);
         word::put_bits(t, p, k, x);
         done += k;
     }

@@ -47,7 +47,7 @@ fn byte_replaced(b: u8, k: usize, m: usize, v: u64) -> u8
 }
 
 // The n bits of s from pos on, as a number.
-pub fn get_by_bytes(s: &[u8], pos: usize, n: usize) -> u64
+fn get_by_bytes(s: &[u8], pos: usize, n: usize) -> u64
     requires { ⌜ (pos + n ≤ 8 * length (now s)) × (n ≤ 64) × (pos ≤ 65536) ⌝ }
     ensures { λ r. ⌜ r ≡ getBits (now (s .entry)) pos n ⌝ }
 {
@@ -153,20 +153,8 @@ pub fn get_bits(s: &[u8], pos: usize, n: usize) -> u64
     get_in_word(s, at, o, n)
 }
 
-// As get_bits, by two loads where the bits may lie in nine bytes.
-pub fn get_long(s: &[u8], pos: usize, n: usize) -> u64
-    requires { ⌜ (pos + n ≤ 8 * length (now s)) × (n ≤ 64) × (pos + n ≤ 65536) ⌝ }
-    ensures { λ r. ⌜ r ≡ getBits (now (s .entry)) pos n ⌝ }
-{
-    if n < 58 {
-        return get_bits(s, pos, n);
-    }
-    let k = n - 32;
-    join(get_bits(s, pos, k), 32, get_bits(s, pos + k, 32))
-}
-
 // The n low bits of v put into s from pos on.
-pub fn put_by_bytes(s: &mut [u8], pos: usize, n: usize, v: u64)
+fn put_by_bytes(s: &mut [u8], pos: usize, n: usize, v: u64)
     requires { ⌜ (pos + n ≤ 8 * length (now s)) × (n ≤ 64) × (pos ≤ 65536) ⌝ }
     ensures { λ r. ⌜ now (s .exit) ≡ putBits (now (s .entry)) pos (bitsOfNat n v) ⌝ }
 {

@@ -21,7 +21,7 @@ loop-holds : tie.Need-loop-holds Inv-loop μ-loop
 loop-holds c = (search needs, refl, rw bitsAt-zero (sym (putBits-nil _ _ (λ i. omega (arith, c .before .slice-known .given i)))))
 
 put-bits-requires : tie.Need-put-bits-requires Inv-loop μ-loop
-put-bits-requires c κs = (omega arith, omega arith, omega arith, rw (c .before .get-long .ensures) (getBits-lt _ _ _ (omega arith)))
+put-bits-requires c κs = (omega arith, omega arith, omega arith, rw (c .before .get-bits .ensures) (getBits-lt _ _ _ (omega arith)))
 
 loop-again : tie.Need-loop-again Inv-loop μ-loop
 loop-again c =
@@ -32,7 +32,7 @@ loop-again c =
       omega arith,
       rw (p .put-bits .ensures, length-putBits) (l .inv .1),
       p .put-bits .ensures
-          ∙ copy-turn (now (a .s)) (now (a .t)) (l .t) (a .tpos) (a .spos) (l .done) (g .before .least .result) _ (l .inv .2) (g .get-long .ensures)
+          ∙ copy-turn (now (a .s)) (now (a .t)) (l .t) (a .tpos) (a .spos) (l .done) (g .before .least .result) _ (l .inv .2) (g .get-bits .ensures)
           (omega arith) (omega arith),
     )
 
