@@ -1,2 +1,3 @@
+pub mod BitBytes
 pub mod Shifts
 pub mod Words

@@ -4,7 +4,7 @@ ghost use Prim.Native.Nat.{_+_, _-_, _*_, _/_, _%_, _^_, _≤_, _<_, min};
 ghost use lib.ListN.{length};
 ghost use Rattle.tetra_core.specs.Bits.{getBits, putBits, bitsOfNat, patch};
 
-fn least(a: usize, b: usize) -> usize
+pub fn least(a: usize, b: usize) -> usize
     ensures { λ r. ⌜ r ≡ min a b ⌝ }
 {
     if a < b { a } else { b }

@@ -9,7 +9,7 @@ use lib.ListN.{length}
 use lib.Dec.{leb, ltb}
 use Rattle.tetra_core.specs.Bits.{getBits, putBits, bitsOfNat}
 use Rattle.tetra_core.specs.Refusal.{unless, first, first-none, passed}
-use Rattle.tetra_core.specs.BitBuffer.{goodWindow, at, moved, after, answer, outcome, bytesAfter, reads, moves, readRefusal, readBits, writeRefusal, written}
+use Rattle.tetra_core.specs.BitBuffer.{goodWindow, remaining, at, moved, after, answer, outcome, bytesAfter, reads, moves, readRefusal, readBits, octetsOf, intoSliceRefusal, bitarrRefusal, writeRefusal, written, areBits, fromBitarrRefusal}
 use Rattle.tetra_core.specs.Laws.Writes.{length-putBits, getBits-putBits}
 use Rattle.tetra_core.specs.declared.bitbuffer.Cursor.{Cursor}
 use Rattle.tetra_core.specs.declared.bitbuffer.BitsAnswer.the-variants.{Value, Refused}
@@ -101,6 +101,54 @@ writable len c v n e =
 pub write-free : (len : ℕ) (c : Cursor) (v n : ℕ) → Writable len c v n → writeRefusal len c v n ≡ 0
 unfolding writeRefusal first
 write-free len c v n r = simp (good-test len c (r .good), le-leb _ _ (r .narrow), lt-ltb _ _ (r .holds), le-leb _ _ (r .room))
+
+-- n bits that are read into k bytes
+pub record Sliceable (len : ℕ) (c : Cursor) (n k : ℕ) : Type 0 where
+  pub good : Good len c
+  pub there : n ≤ remaining c
+  pub room : octetsOf n ≤ k
+
+pub sliceable : (len : ℕ) (c : Cursor) (n k : ℕ) → intoSliceRefusal len c n k ≡ 0 → Sliceable len c n k
+unfolding intoSliceRefusal
+sliceable len c n k e =
+    let w = first-none (unless (goodWindow len c) 13) _ e in
+    let x = first-none (unless (leb n (remaining c)) 1) _ (w .1) in
+    let y = first-none (unless (leb (octetsOf n) k) 2) _ (x .1) in
+    record {
+      good = good-facts len c (passed _ 12 (w .0));
+      there = leb-true _ _ (passed _ 0 (x .0));
+      room = leb-true _ _ (passed _ 1 (y .0));
+    }
+
+-- n bits that are read into as many bytes
+pub record Spreadable (len : ℕ) (c : Cursor) (n : ℕ) : Type 0 where
+  pub good : Good len c
+  pub there : n ≤ remaining c
+
+pub spreadable : (len : ℕ) (c : Cursor) (n : ℕ) → bitarrRefusal len c n ≡ 0 → Spreadable len c n
+unfolding bitarrRefusal
+spreadable len c n e =
+    let w = first-none (unless (goodWindow len c) 13) _ e in
+    let x = first-none (unless (leb n (remaining c)) 1) _ (w .1) in
+    record { good = good-facts len c (passed _ 12 (w .0)); there = leb-true _ _ (passed _ 0 (x .0)) }
+
+-- bytes that are written as bits
+pub record Gatherable (len : ℕ) (c : Cursor) (buf : List ℕ) : Type 0 where
+  pub good : Good len c
+  pub bits : areBits buf ≡ true
+  pub room : length buf ≤ remaining c
+
+pub gatherable : (len : ℕ) (c : Cursor) (buf : List ℕ) → fromBitarrRefusal len c buf ≡ 0 → Gatherable len c buf
+unfolding fromBitarrRefusal
+gatherable len c buf e =
+    let w = first-none (unless (goodWindow len c) 13) _ e in
+    let x = first-none (unless (areBits buf) 3) _ (w .1) in
+    let y = first-none (unless (leb (length buf) (remaining c)) 2) _ (x .1) in
+    record {
+      good = good-facts len c (passed _ 12 (w .0));
+      bits = passed _ 2 (x .0);
+      room = leb-true _ _ (passed _ 1 (y .0));
+    }
 
 -- ---- the forms of an answer: refused by r, or done
 
