@@ -1,3 +1,4 @@
+pub mod BitBytes
 pub mod Shifts
 pub mod Signed
 pub mod Words

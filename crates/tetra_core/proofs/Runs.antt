@@ -12,7 +12,7 @@ use Rattle.tetra_core.specs.Laws.Reads.{get-is, bitsAt-add, length-bitsA
 use Rattle.tetra_core.specs.Laws.Writes.{putBits-append}
 
 -- a write of which the bits xs are done goes on by the bits ys, which the code has as a number
-goes-on : (s₀ s : List ℕ) (p j k v : ℕ) (xs ys : List Bool) → s ≡ putBits s₀ p xs → length xs ≡ j → length ys ≡ k → v ≡ val ys
+pub goes-on : (s₀ s : List ℕ) (p j k v : ℕ) (xs ys : List Bool) → s ≡ putBits s₀ p xs → length xs ≡ j → length ys ≡ k → v ≡ val ys
     → p + j ≤ 8 * length s₀ → putBits s (p + j) (bitsOfNat k v) ≡ putBits s₀ p (xs ++ ys)
 goes-on s₀ s p j k v xs ys es ej ek ev h = rw (es, ev, ← ek, ← ej, bitsOfNat-val) (putBits-append s₀ p xs ys (rw ej h))
 

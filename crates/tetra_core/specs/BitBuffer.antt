@@ -112,15 +112,16 @@ slicedBits s c n buf =
     bytesAfter (intoSliceRefusal (length s) c n (length buf)) buf
     (putBits buf 0 (bitsAt s (c .pos) n ++ replicate (fillOf n) false))
 
--- a byte 0 or 1 for each bit, as many as buf has bytes
-unfoldable pub bitarrRefusal : ℕ → Cursor → ℕ → ℕ
-bitarrRefusal len c n = first (unless (goodWindow len c) 13 ∷ unless (leb n (remaining c)) 1 ∷ [])
+-- the window has n bits from its cursor on, or the call is refused by j: 1 where it reads, 2 where it writes
+unfoldable pub roomRefusal : ℕ → ℕ → Cursor → ℕ → ℕ
+roomRefusal j len c n = first (unless (goodWindow len c) 13 ∷ unless (leb n (remaining c)) j ∷ [])
 
+-- a byte 0 or 1 for each bit, as many as buf has bytes
 unfoldable pub toBitarr : List ℕ → Cursor → List ℕ → BitsRead
-toBitarr s c buf = reads (bitarrRefusal (length s) c (length buf)) (length buf) c (moved c (length buf))
+toBitarr s c buf = reads (roomRefusal 1 (length s) c (length buf)) (length buf) c (moved c (length buf))
 
 unfoldable pub bitarr : List ℕ → Cursor → List ℕ → List ℕ
-bitarr s c buf = bytesAfter (bitarrRefusal (length s) c (length buf)) buf (map digit (bitsAt s (c .pos) (length buf)))
+bitarr s c buf = bytesAfter (roomRefusal 1 (length s) c (length buf)) buf (map digit (bitsAt s (c .pos) (length buf)))
 
 -- ---- writes
 
@@ -136,14 +137,11 @@ unfoldable pub written : List ℕ → Cursor → ℕ → ℕ → List ℕ
 written s c v n = bytesAfter (writeRefusal (length s) c v n) s (putBits s (c .pos) (bitsOfNat n v))
 
 -- n bits that are all b, as many as the window has room for
-unfoldable pub runRefusal : ℕ → Cursor → ℕ → ℕ
-runRefusal len c n = first (unless (goodWindow len c) 13 ∷ unless (leb n (remaining c)) 2 ∷ [])
-
 unfoldable pub writeRun : List ℕ → Cursor → ℕ → Moved
-writeRun s c n = moves (runRefusal (length s) c n) c (moved c n)
+writeRun s c n = moves (roomRefusal 2 (length s) c n) c (moved c n)
 
 unfoldable pub runWritten : Bool → List ℕ → Cursor → ℕ → List ℕ
-runWritten b s c n = bytesAfter (runRefusal (length s) c n) s (putBits s (c .pos) (replicate n b))
+runWritten b s c n = bytesAfter (roomRefusal 2 (length s) c n) s (putBits s (c .pos) (replicate n b))
 
 -- n bits of the slice s at its cursor c into the slice t at its cursor d
 unfoldable pub copyRefusal : ℕ → Cursor → ℕ → Cursor → ℕ → ℕ

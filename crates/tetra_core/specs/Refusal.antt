@@ -36,6 +36,12 @@ unfolding first
 first-here zero ns h = absurd (h refl)
 first-here (suc n) ns h = refl
 
+-- the last entry is the answer in any case
+pub first-last : (n : ℕ) → first (n ∷ []) ≡ n
+unfolding first
+first-last zero = refl
+first-last (suc n) = refl
+
 -- a test that refuses nothing holds
 pub passed : (b : Bool) (n : ℕ) → unless b (suc n) ≡ 0 → b ≡ true
 passed true n e = refl

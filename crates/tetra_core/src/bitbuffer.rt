@@ -1,5 +1,6 @@
 // Bits of lent bytes through a window, most significant bit of byte 0 first. Takes the place of BitBuffer: the bytes are lent,
 // and the cursor goes in by value and comes back in the answer.
+use crate::bitarr;
 use crate::refusal;
 use crate::refusal::Refusal;
 use crate::run;
@@ -10,7 +11,7 @@ ghost use mathlib.Core.Bool.{true, false};
 ghost use lib.ListN.{length};
 ghost use lib.IntN.{_+ℤ_};
 ghost use lib.Dec.{ltb};
-ghost use Rattle.tetra_core.specs.BitBuffer.{goodWindow, readRefusal, readBits, peekAt, peekBitsPosoffset, writeRefusal, writeBits, written, at, placeOf, signed, readRefused, moves, windowCount, changed, seekRel, opened, runRefusal, writeRun, runWritten, copyRefusal, copyBits, copied, remaining};
+ghost use Rattle.tetra_core.specs.BitBuffer.{goodWindow, readRefusal, readBits, peekAt, peekBitsPosoffset, writeRefusal, writeBits, written, at, placeOf, signed, readRefused, moves, windowCount, changed, seekRel, opened, writeRun, runWritten, copyRefusal, copyBits, copied, intoSliceRefusal, readBitsIntoSlice, slicedBits, roomRefusal, toBitarr, bitarr, fromBitarrRefusal, copyBitsFromBitarr, fromBitarr};
 
 // A window over a slice and the bit that it has reached. It is good where start <= pos <= end, and end is at most 65,536 and
 // at most the bits of the slice.
@@ -245,6 +246,68 @@ pub fn peek_bits_startoffset(s: &[u8], c: Cursor, offset: usize, num_bits: usize
     peek_at(s, c, p, num_bits)
 }
 
+// 13, or the number given where the window has fewer than num_bits bits from its cursor on, or 0.
+fn room_refusal(len: usize, c: Cursor, num_bits: usize, number: u8) -> u8
+    ensures { λ r. ⌜ r ≡ roomRefusal number len c «num_bits» ⌝ }
+{
+    if !good_window(len, c) {
+        return refusal::BAD_WINDOW;
+    }
+    if c.end - c.pos < num_bits {
+        return number;
+    }
+    0
+}
+
+// Why num_bits bits are not read into room bytes, or 0.
+fn into_slice_refusal(len: usize, c: Cursor, num_bits: usize, room: usize) -> u8
+    ensures { λ r. ⌜ r ≡ intoSliceRefusal len c «num_bits» room ⌝ }
+{
+    if !good_window(len, c) {
+        return refusal::BAD_WINDOW;
+    }
+    if c.end - c.pos < num_bits {
+        return refusal::READ_PAST_END;
+    }
+    if room < (num_bits + 7) / 8 {
+        return refusal::WRITE_PAST_END;
+    }
+    0
+}
+
+// Reads num_bits bits into the first bytes of buf, the last one filled up with zeros.
+pub fn read_bits_into_slice(s: &[u8], c: Cursor, num_bits: usize, buf: &mut [u8]) -> BitsRead
+    ensures { λ r. ⌜ (r ≡ readBitsIntoSlice (now (s .entry)) c «num_bits» (now (buf .entry))) × (now (buf .exit) ≡ slicedBits (now (s .entry)) c «num_bits» (now (buf .entry))) ⌝ }
+{
+    let number = into_slice_refusal(s.len(), c, num_bits, buf.len());
+    if number != 0 {
+        return refused(c, number);
+    }
+    let pos = c.pos;
+    bitarr::copy_octets(buf, s, pos, num_bits);
+    BitsRead {
+        cursor: moved_to(c, pos + num_bits),
+        answer: BitsAnswer::Value(num_bits as u64),
+    }
+}
+
+// Reads a bit into each byte of buf, as 0 or 1.
+pub fn to_bitarr(s: &[u8], c: Cursor, buf: &mut [u8]) -> BitsRead
+    ensures { λ r. ⌜ (r ≡ toBitarr (now (s .entry)) c (now (buf .entry))) × (now (buf .exit) ≡ bitarr (now (s .entry)) c (now (buf .entry))) ⌝ }
+{
+    let n = buf.len();
+    let number = room_refusal(s.len(), c, n, refusal::READ_PAST_END);
+    if number != 0 {
+        return refused(c, number);
+    }
+    let pos = c.pos;
+    bitarr::spread_all(buf, s, pos);
+    BitsRead {
+        cursor: moved_to(c, pos + n),
+        answer: BitsAnswer::Value(n as u64),
+    }
+}
+
 // Writes value in num_bits bits, 64 at most.
 pub fn write_bits(s: &mut [u8], c: Cursor, value: u64, num_bits: usize) -> Moved
     ensures { λ r. ⌜ (r ≡ writeBits (now (s .entry)) c value «num_bits») × (now (s .exit) ≡ written (now (s .entry)) c value «num_bits») ⌝ }
@@ -271,24 +334,11 @@ pub fn write_bit(s: &mut [u8], c: Cursor, value: u8) -> Moved
     write_bits(s, c, value as u64, 1)
 }
 
-// Why num_bits bits, all the same, are not written, or 0.
-fn run_refusal(len: usize, c: Cursor, num_bits: usize) -> u8
-    ensures { λ r. ⌜ r ≡ runRefusal len c «num_bits» ⌝ }
-{
-    if !good_window(len, c) {
-        return refusal::BAD_WINDOW;
-    }
-    if c.end - c.pos < num_bits {
-        return refusal::WRITE_PAST_END;
-    }
-    0
-}
-
 // Writes num_bits bits, all ones or all zeroes.
 fn write_run(s: &mut [u8], c: Cursor, num_bits: usize, ones: bool) -> Moved
     ensures { λ r. ⌜ (r ≡ writeRun (now (s .entry)) c «num_bits») × (now (s .exit) ≡ runWritten ones (now (s .entry)) c «num_bits») ⌝ }
 {
-    let number = run_refusal(s.len(), c, num_bits);
+    let number = room_refusal(s.len(), c, num_bits, refusal::WRITE_PAST_END);
     if number != 0 {
         return Moved {
             cursor: c,
@@ -354,6 +404,41 @@ pub fn copy_bits(t: &mut [u8], d: Cursor, s: &[u8], c: Cursor, num_bits: usize) 
     Copied {
         cursor: moved_to(d, to + num_bits),
         source: moved_to(c, from + num_bits),
+        answer: Outcome::Done,
+    }
+}
+
+// Why the bytes of buf are not written as bits, or 0.
+fn from_bitarr_refusal(len: usize, c: Cursor, buf: &[u8]) -> u8
+    ensures { λ r. ⌜ r ≡ fromBitarrRefusal len c (now (buf .entry)) ⌝ }
+{
+    if !good_window(len, c) {
+        return refusal::BAD_WINDOW;
+    }
+    if !bitarr::all_bits(buf) {
+        return refusal::VALUE_TOO_WIDE;
+    }
+    if c.end - c.pos < buf.len() {
+        return refusal::WRITE_PAST_END;
+    }
+    0
+}
+
+// Writes each byte of buf, 0 or 1, as a bit. All are judged before the first is written.
+pub fn copy_bits_from_bitarr(s: &mut [u8], c: Cursor, buf: &[u8]) -> Moved
+    ensures { λ r. ⌜ (r ≡ copyBitsFromBitarr (now (s .entry)) c (now (buf .entry))) × (now (s .exit) ≡ fromBitarr (now (s .entry)) c (now (buf .entry))) ⌝ }
+{
+    let number = from_bitarr_refusal(s.len(), c, buf);
+    if number != 0 {
+        return Moved {
+            cursor: c,
+            answer: Outcome::Refused(number),
+        };
+    }
+    let pos = c.pos;
+    bitarr::gather_all(s, pos, buf);
+    Moved {
+        cursor: moved_to(c, pos + buf.len()),
         answer: Outcome::Done,
     }
 }

@@ -7,8 +7,8 @@ use native.Mathlib.Omega.{arith}
 use lib.ListN.{length, take, drop, length-drop}
 use lib.Seq.{length-take-le, take-add, drop-drop}
 use lib.Pow.{pow-add, high, low}
-use Rattle.tetra_core.specs.Bits.{val, bitsOf, bitsAt, getBits}
-use Rattle.tetra_core.specs.Laws.Values.{val-nil, val-append, val-lt}
+use Rattle.tetra_core.specs.Bits.{val, bitsOfNat, bitsOf, bitsAt, getBits}
+use Rattle.tetra_core.specs.Laws.Values.{val-nil, val-append, val-lt, bitsOfNat-val}
 use Rattle.tetra_core.specs.Laws.Bytes.{length-bitsOf}
 
 pub at-is : (s : List ℕ) (p n : ℕ) → bitsAt s p n ≡ take n (drop p (bitsOf s))
@@ -30,6 +30,11 @@ length-bitsAt s p n h = length-take-le n (drop p (bitsOf s)) (omega (arith, leng
 pub getBits-lt : (s : List ℕ) (p n : ℕ) → p + n ≤ 8 * length s → getBits s p n < 2 ^ n
 unfolding getBits
 getBits-lt s p n h = rw (length-bitsAt s p n h) at (val-lt (bitsAt s p n))
+
+-- the bits of what a read returns
+pub bitsOfNat-getBits : (s : List ℕ) (p n : ℕ) → p + n ≤ 8 * length s → bitsOfNat n (getBits s p n) ≡ bitsAt s p n
+unfolding getBits
+bitsOfNat-getBits s p n h = rw (length-bitsAt s p n h) at (bitsOfNat-val (bitsAt s p n))
 
 -- a read of j + k bits is a read of j and one of k
 pub getBits-add : (s : List ℕ) (p j k : ℕ) → p + (j + k) ≤ 8 * length s → getBits s p (j + k) ≡ getBits s p j * 2 ^ k + getBits s (p + j) k

@@ -3,10 +3,10 @@ use Prim.Native.Nat.{ℕ, zero, suc, _+_, _*_, _/_, _%_, _^_, _<_}
 use mathlib.Core.Path.{_≡_, refl, sym, ap, ap₂, _∙_}
 use mathlib.Core.List.{[], List, _∷_, _++_}
 use mathlib.Core.Bool.{Bool, true, false}
-use native.Mathlib.Nat.{zero-add, suc-add, mod-lt, mod-eq-of-lt, mul-assoc, add-mul, add-assoc, pow-suc, mod-one, mul-comm, add-comm}
+use native.Mathlib.Nat.{zero-add, suc-add, mod-lt, mod-eq-of-lt, mul-assoc, add-mul, add-assoc, pow-suc, zero-div, mod-one, mul-comm, add-comm}
 use native.Mathlib.Numerals.{one-add}
 use native.Mathlib.Omega.{arith}
-use lib.ListN.{length, length-append}
+use lib.ListN.{length, replicate, length-append}
 use lib.Pow.{pow-add, mod-pow-add, high, low, shr-shr}
 use lib.Dec.{eqb}
 use lib.Arith.{digits-lt}
@@ -99,3 +99,9 @@ pub bitsOfNat-add : (j k v : ℕ) → bitsOfNat (j + k) v ≡ bitsOfNat j (v / 2
 bitsOfNat-add zero k v = rw (zero-add, bits-zero)
 bitsOfNat-add (suc j) k v =
     rw (suc-add j k, bits-suc (j + k) v, bits-suc j (v / 2 ^ k), bitsOfNat-add j k v, shr-shr v k j, add-comm k j)
+
+-- the bits of 0
+pub bits-of-zero : (n : ℕ) → bitsOfNat n 0 ≡ replicate n false
+unfolding odd
+bits-of-zero zero = bits-zero 0
+bits-of-zero (suc n) = rw (bits-suc, zero-div, bits-of-zero n)

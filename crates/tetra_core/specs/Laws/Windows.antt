@@ -9,7 +9,8 @@ use lib.ListN.{length}
 use lib.Dec.{leb, ltb}
 use Rattle.tetra_core.specs.Bits.{getBits, bitsOfNat}
 use Rattle.tetra_core.specs.Refusal.{unless, first, first-none, passed}
-use Rattle.tetra_core.specs.BitBuffer.{goodWindow, at, moved, after, answer, bytesAfter, reads, readRefused, moves, changed, peekAt, peekPlace, seekPlace, readRefusal, readBits, writeRefusal, written, outcome, runRefusal, copyRefusal}
+use Rattle.tetra_core.specs.Quantity.{octetsOf}
+use Rattle.tetra_core.specs.BitBuffer.{roomRefusal, goodWindow, at, moved, after, answer, bytesAfter, reads, readRefused, moves, changed, peekAt, peekPlace, seekPlace, readRefusal, readBits, writeRefusal, written, outcome, copyRefusal, remaining, intoSliceRefusal, areBits, fromBitarrRefusal}
 use Rattle.tetra_core.specs.Laws.Writes.{length-putBits, getBits-putBits}
 use Rattle.tetra_core.specs.declared.bitbuffer.Cursor.{Cursor}
 use Rattle.tetra_core.specs.declared.bitbuffer.BitsAnswer.the-variants.{Value, Refused}
@@ -111,16 +112,17 @@ pub write-free : (len : ℕ) (c : Cursor) (v n : ℕ) → Writable len c v n →
 unfolding writeRefusal first
 write-free len c v n r = simp (good-test len c (r .good), le-leb _ _ (r .narrow), lt-ltb _ _ (r .holds), le-leb _ _ (r .room))
 
-pub record Fillable (len : ℕ) (c : Cursor) (n : ℕ) : Type 0 where
+-- n bits that a window has from its cursor on
+pub record Roomy (len : ℕ) (c : Cursor) (n : ℕ) : Type 0 where
   pub good : Good len c
-  pub room : n ≤ c .end - c .pos
+  pub room : n ≤ remaining c
 
-pub fillable : (len : ℕ) (c : Cursor) (n : ℕ) → runRefusal len c n ≡ 0 → Fillable len c n
-unfolding runRefusal
-fillable len c n e =
+pub roomy : (j len : ℕ) (c : Cursor) (n : ℕ) → roomRefusal (suc j) len c n ≡ 0 → Roomy len c n
+unfolding roomRefusal
+roomy j len c n e =
     let w = first-none (unless (goodWindow len c) 13) _ e in
-    let x = first-none (unless (leb n (c .end - c .pos)) 2) _ (w .1) in
-    record { good = good-facts len c (passed _ 12 (w .0)); room = leb-true _ _ (passed _ 1 (x .0)) }
+    let x = first-none (unless (leb n (remaining c)) (suc j)) _ (w .1) in
+    record { good = good-facts len c (passed _ 12 (w .0)); room = leb-true _ _ (passed _ j (x .0)) }
 
 pub record Copyable (lent : ℕ) (d : Cursor) (lens : ℕ) (c : Cursor) (n : ℕ) : Type 0 where
   pub to : Good lent d
@@ -140,6 +142,42 @@ copyable lent d lens c n e =
       from = good-facts lens c (passed _ 12 (x .0));
       there = leb-true _ _ (passed _ 0 (y .0));
       room = leb-true _ _ (passed _ 1 (z .0));
+    }
+
+-- n bits that are read into k bytes
+pub record Sliceable (len : ℕ) (c : Cursor) (n k : ℕ) : Type 0 where
+  pub good : Good len c
+  pub there : n ≤ remaining c
+  pub room : octetsOf n ≤ k
+
+pub sliceable : (len : ℕ) (c : Cursor) (n k : ℕ) → intoSliceRefusal len c n k ≡ 0 → Sliceable len c n k
+unfolding intoSliceRefusal
+sliceable len c n k e =
+    let w = first-none (unless (goodWindow len c) 13) _ e in
+    let x = first-none (unless (leb n (remaining c)) 1) _ (w .1) in
+    let y = first-none (unless (leb (octetsOf n) k) 2) _ (x .1) in
+    record {
+      good = good-facts len c (passed _ 12 (w .0));
+      there = leb-true _ _ (passed _ 0 (x .0));
+      room = leb-true _ _ (passed _ 1 (y .0));
+    }
+
+-- bytes that are written as bits
+pub record Gatherable (len : ℕ) (c : Cursor) (buf : List ℕ) : Type 0 where
+  pub good : Good len c
+  pub bits : areBits buf ≡ true
+  pub room : length buf ≤ remaining c
+
+pub gatherable : (len : ℕ) (c : Cursor) (buf : List ℕ) → fromBitarrRefusal len c buf ≡ 0 → Gatherable len c buf
+unfolding fromBitarrRefusal
+gatherable len c buf e =
+    let w = first-none (unless (goodWindow len c) 13) _ e in
+    let x = first-none (unless (areBits buf) 3) _ (w .1) in
+    let y = first-none (unless (leb (length buf) (remaining c)) 2) _ (x .1) in
+    record {
+      good = good-facts len c (passed _ 12 (w .0));
+      bits = passed _ 2 (x .0);
+      room = leb-true _ _ (passed _ 1 (y .0));
     }
 
 -- ---- the forms of an answer: refused by r, or done
