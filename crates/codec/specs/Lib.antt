@@ -1,0 +1,36 @@
+-- What a header codec cites. A definition reads and writes field by field; code reads and writes several fields as one word. These
+-- laws close the gap, so that each return of a codec is a line.
+--
+-- Reader   run-bind        a reader with a part of its own: run the part, then what follows by its value
+--          inside          a reader stops inside the bits that it is given and leaves those from there on
+--          again           a reader uses no bit outside what it read: it gives the same value whatever stands behind
+-- Feed     feeds           a reader of bits that begin with a word computes past every field in the word
+--          short           a reader is refused 1 at the first field that the bits do not reach to the end of
+-- Header   fed             feeds at an offset of a header where `word` was read
+--          starved         short at an offset of a header where `left` is too little; the code answers it by `short`
+--          alone           a word that is one field
+--          starved-alone   too few bits left for one field
+--          left-on         the bits left some bits on
+--          read            what a part's own function answered, as the part's outcome
+--          bad-seen, good-seen   what `if !good_window(..)` told
+--          ends            a header that is read ends inside its window
+-- Row      row-is          the number of a row whose values fit
+--          length-row      the bits of a row are as many as its widths together
+--          put-row         a number that was put is the row that it stands for
+--          join-rows       a row and a tail as one number
+-- Write    free, free-test what is known where nothing refuses a write, and back
+--          write-refused   the refused return of a call that writes, its answer and its bytes
+--          write-done      the last return of one
+-- Back     gives           a reader of bits that begin with a row computes past every cell of the row
+--          written-back    what a call wrote at a cursor is read there: value and cursor
+-- Lend     lent            bits put into a lent part of a block are bits put into the block
+-- Cases    last-case       the last arm of a match from number to case
+--          flag-back       a flag that was written is read back
+pub mod Reader
+pub mod Feed
+pub mod Header
+pub mod Row
+pub mod Write
+pub mod Back
+pub mod Lend
+pub mod Cases

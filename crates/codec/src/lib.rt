@@ -1,0 +1,103 @@
+// What every header codec is made of: several fields by one read, several fields by one write, and the decisions that all calls share.
+use tetra_core::bitbuffer;
+use tetra_core::bitbuffer::Cursor;
+use tetra_core::refusal;
+use tetra_core::refusal::Refusal;
+ghost use mathlib.Core.Path.{_≡_};
+ghost use Prim.Native.Nat.{_+_, _-_, _≤_, _<_};
+ghost use lib.ListN.{length};
+ghost use Rattle.tetra_core.specs.Bits.{digit};
+ghost use Rattle.tetra_core.specs.BitBuffer.{moved, remaining};
+ghost use Rattle.tetra_core.specs.Laws.Windows.{Good};
+ghost use Rattle.codec.specs.Feed.{shortAt};
+ghost use Rattle.codec.specs.Header.{within, Word, Left};
+ghost use Rattle.codec.specs.Write.{refusalAt};
+
+// The bits of a header that are left from the offset o on.
+pub fn left(s: &[u8], c: Cursor, o: usize) -> usize
+    requires { ⌜ Good (length (now s)) c ⌝ }
+    ensures { λ r. ⌜ Left (now (s .entry)) c o r ⌝ }
+{
+    let size = c.end - c.pos;
+    if size < o {
+        return 0;
+    }
+    size - o
+}
+
+// The n bits of a header from the offset o on, as a number.
+pub fn word(s: &[u8], c: Cursor, o: usize, n: usize) -> u64
+    requires { ⌜ Good (length (now s)) c × (o + n ≤ remaining c) × (n ≤ 64) ⌝ }
+    ensures { λ r. ⌜ Word (within (now (s .entry)) c) o n r ⌝ }
+{
+    tetra_core::word::get_bits(s, c.pos + o, n)
+}
+
+fn wide(x: u8) -> usize
+    ensures { λ r. ⌜ r ≡ x ⌝ }
+{
+    x as usize
+}
+
+// Where the first of the fields of these widths starts that does not end within the bits left.
+fn reach(widths: &[u8], left: usize) -> usize
+    ensures { λ r. ⌜ (r ≡ shortAt (now (widths .entry)) left) × (r ≤ left) ⌝ }
+{
+    let mut at: usize = 0;
+    let mut i = 0;
+    while i < widths.len() {
+        let n = wide(widths[i]);
+        if left - at < n {
+            return at;
+        }
+        at += n;
+        i += 1;
+    }
+    at
+}
+
+// The refusal of fields of these widths, from the offset o on, that do not end within the bits left.
+pub fn short(widths: &[u8], left: usize, o: usize) -> Refusal
+    requires { ⌜ o + left < 18446744073709551616 ⌝ }
+    ensures { λ r. ⌜ r ≡ record { number = 1; bit = o + shortAt (now (widths .entry)) left } ⌝ }
+{
+    Refusal {
+        number: refusal::READ_PAST_END,
+        bit: o + reach(widths, left),
+    }
+}
+
+// A flag as the bit that it is written as.
+pub fn bit(b: bool) -> u64
+    ensures { λ r. ⌜ (r ≡ digit b) × (r < 2) ⌝ }
+{
+    if b { 1 } else { 0 }
+}
+
+// The cursor n bits on.
+pub fn moved_by(c: Cursor, n: usize) -> Cursor
+    requires { ⌜ c .pos + n ≤ c .end ⌝ }
+    ensures { λ r. ⌜ r ≡ moved c n ⌝ }
+{
+    Cursor {
+        start: c.start,
+        pos: c.pos + n,
+        end: c.end,
+    }
+}
+
+// Why a value of size bits, which is itself refused by value or by 0, is not written at a cursor, or 0.
+pub fn write_refusal(len: usize, c: Cursor, value: u8, size: usize) -> u8
+    ensures { λ r. ⌜ r ≡ refusalAt len c value size ⌝ }
+{
+    if !bitbuffer::good_window(len, c) {
+        return refusal::BAD_WINDOW;
+    }
+    if value != 0 {
+        return value;
+    }
+    if c.end - c.pos < size {
+        return refusal::WRITE_PAST_END;
+    }
+    0
+}

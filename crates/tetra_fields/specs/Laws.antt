@@ -1,0 +1,2 @@
+-- The laws of the fields that other crates cite.
+pub mod BasicSlotgrant

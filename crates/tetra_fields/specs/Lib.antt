@@ -1,0 +1,2 @@
+pub mod BasicSlotgrant
+pub mod Laws

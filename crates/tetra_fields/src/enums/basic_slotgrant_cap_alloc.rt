@@ -1,0 +1,71 @@
+// Clause 21.5.6, basic slot granting: the capacity allocation element, 4 bits.
+ghost use mathlib.Core.Path.{_≡_};
+ghost use Prim.Native.Nat.{_<_};
+ghost use Rattle.tetra_fields.specs.BasicSlotgrant.{capAllocNumber, capAllocOf};
+
+pub enum BasicSlotgrantCapAlloc {
+    FirstSubslotGranted,
+    Grant1Slot,
+    Grant2Slots,
+    Grant3Slots,
+    Grant4Slots,
+    Grant5Slots,
+    Grant6Slots,
+    Grant8Slots,
+    Grant10Slots,
+    Grant13Slots,
+    Grant17Slots,
+    Grant24Slots,
+    Grant34Slots,
+    Grant51Slots,
+    Grant68Slots,
+    SecondSubslotGranted,
+}
+
+// The case of a number of 4 bits.
+pub fn from_raw(v: u64) -> BasicSlotgrantCapAlloc
+    ensures { λ r. ⌜ r ≡ capAllocOf v ⌝ }
+{
+    match v {
+        0 => BasicSlotgrantCapAlloc::FirstSubslotGranted,
+        1 => BasicSlotgrantCapAlloc::Grant1Slot,
+        2 => BasicSlotgrantCapAlloc::Grant2Slots,
+        3 => BasicSlotgrantCapAlloc::Grant3Slots,
+        4 => BasicSlotgrantCapAlloc::Grant4Slots,
+        5 => BasicSlotgrantCapAlloc::Grant5Slots,
+        6 => BasicSlotgrantCapAlloc::Grant6Slots,
+        7 => BasicSlotgrantCapAlloc::Grant8Slots,
+        8 => BasicSlotgrantCapAlloc::Grant10Slots,
+        9 => BasicSlotgrantCapAlloc::Grant13Slots,
+        10 => BasicSlotgrantCapAlloc::Grant17Slots,
+        11 => BasicSlotgrantCapAlloc::Grant24Slots,
+        12 => BasicSlotgrantCapAlloc::Grant34Slots,
+        13 => BasicSlotgrantCapAlloc::Grant51Slots,
+        14 => BasicSlotgrantCapAlloc::Grant68Slots,
+        _ => BasicSlotgrantCapAlloc::SecondSubslotGranted,
+    }
+}
+
+// The number of a case.
+pub fn into_raw(a: BasicSlotgrantCapAlloc) -> u64
+    ensures { λ r. ⌜ (r ≡ capAllocNumber a) × (r < 16) ⌝ }
+{
+    match a {
+        BasicSlotgrantCapAlloc::FirstSubslotGranted => 0,
+        BasicSlotgrantCapAlloc::Grant1Slot => 1,
+        BasicSlotgrantCapAlloc::Grant2Slots => 2,
+        BasicSlotgrantCapAlloc::Grant3Slots => 3,
+        BasicSlotgrantCapAlloc::Grant4Slots => 4,
+        BasicSlotgrantCapAlloc::Grant5Slots => 5,
+        BasicSlotgrantCapAlloc::Grant6Slots => 6,
+        BasicSlotgrantCapAlloc::Grant8Slots => 7,
+        BasicSlotgrantCapAlloc::Grant10Slots => 8,
+        BasicSlotgrantCapAlloc::Grant13Slots => 9,
+        BasicSlotgrantCapAlloc::Grant17Slots => 10,
+        BasicSlotgrantCapAlloc::Grant24Slots => 11,
+        BasicSlotgrantCapAlloc::Grant34Slots => 12,
+        BasicSlotgrantCapAlloc::Grant51Slots => 13,
+        BasicSlotgrantCapAlloc::Grant68Slots => 14,
+        BasicSlotgrantCapAlloc::SecondSubslotGranted => 15,
+    }
+}

@@ -1,0 +1,2 @@
+// Elements of several fields.
+pub mod basic_slotgrant;

@@ -1,0 +1,148 @@
+// Clause 21.5.6, basic slot granting: 8 bits, capacity allocation 4 and granting delay 4.
+use crate::enums::basic_slotgrant_cap_alloc as cap_alloc;
+use crate::enums::basic_slotgrant_cap_alloc::BasicSlotgrantCapAlloc;
+use crate::enums::basic_slotgrant_granting_delay as granting_delay;
+use crate::enums::basic_slotgrant_granting_delay::BasicSlotgrantGrantingDelay;
+use tetra_core::bitbuffer;
+use tetra_core::bitbuffer::Cursor;
+use tetra_core::bitbuffer::Moved;
+use tetra_core::bitbuffer::Outcome;
+use tetra_core::refusal;
+use tetra_core::refusal::Refusal;
+use tetra_core::word;
+ghost use mathlib.Core.Path.{_≡_};
+ghost use Prim.Native.Nat.{_+_, _*_, _≤_};
+ghost use lib.ListN.{length};
+ghost use Rattle.tetra_core.specs.Bits.{putBits};
+ghost use Rattle.tetra_core.specs.Laws.Windows.{Good};
+ghost use Rattle.codec.specs.Header.{within, Reads};
+ghost use Rattle.codec.specs.Row.{rowBits, RowIs};
+ghost use Rattle.tetra_fields.specs.BasicSlotgrant.{readSlotgrant, slotgrantOut, slotgrantAt, slotgrantRow, slotgrantRefusal, slotgrantWrite, slotgrantWritten};
+
+pub struct BasicSlotgrant {
+    pub capacity_allocation: BasicSlotgrantCapAlloc,
+    pub granting_delay: BasicSlotgrantGrantingDelay,
+}
+
+// A slot grant, or why there is none.
+pub enum SlotgrantAnswer {
+    Read(BasicSlotgrant),
+    Refused(Refusal),
+}
+
+// What a read answers, and the cursor after it.
+pub struct SlotgrantRead {
+    pub cursor: Cursor,
+    pub answer: SlotgrantAnswer,
+}
+
+// A slot grant as a part of a header, and the offset after it.
+pub enum SlotgrantPart {
+    Read(BasicSlotgrant, usize),
+    Refused(Refusal),
+}
+
+// The slot grant at the offset o of a header.
+pub fn read_slotgrant(s: &[u8], c: Cursor, o: usize) -> SlotgrantPart
+    requires { ⌜ Good (length (now s)) c ⌝ }
+    ensures { λ r. ⌜ Reads slotgrantOut readSlotgrant (within (now (s .entry)) c) o r ⌝ }
+{
+    let left = codec::left(s, c, o);
+    if left < 8 {
+        let widths = [4u8, 4];
+        return SlotgrantPart::Refused(codec::short(&widths, left, o));
+    }
+    let x = codec::word(s, c, o, 8);
+    SlotgrantPart::Read(
+        BasicSlotgrant {
+            capacity_allocation: cap_alloc::from_raw((x >> 4) % 16),
+            granting_delay: granting_delay::from_raw((x % 16) as u8),
+        },
+        o + 8,
+    )
+}
+
+// Reads a slot grant at the cursor.
+pub fn from_bitbuf(s: &[u8], c: Cursor) -> SlotgrantRead
+    ensures { λ r. ⌜ r ≡ slotgrantAt (now (s .entry)) c ⌝ }
+{
+    if !bitbuffer::good_window(s.len(), c) {
+        return SlotgrantRead {
+            cursor: c,
+            answer: SlotgrantAnswer::Refused(Refusal {
+                number: refusal::BAD_WINDOW,
+                bit: 0,
+            }),
+        };
+    }
+    match read_slotgrant(s, c, 0) {
+        SlotgrantPart::Read(g, n) => SlotgrantRead {
+            cursor: codec::moved_by(c, n),
+            answer: SlotgrantAnswer::Read(g),
+        },
+        SlotgrantPart::Refused(r) => SlotgrantRead {
+            cursor: c,
+            answer: SlotgrantAnswer::Refused(r),
+        },
+    }
+}
+
+// Why a slot grant is not written, or 0.
+pub fn slotgrant_refusal(g: BasicSlotgrant) -> u8
+    ensures { λ r. ⌜ r ≡ slotgrantRefusal g ⌝ }
+{
+    let delay = g.granting_delay;
+    match delay {
+        BasicSlotgrantGrantingDelay::CapAllocAtNextOpportunity => 0,
+        BasicSlotgrantGrantingDelay::DelayNOpportunities(n) => {
+            if n < 1 {
+                return refusal::DELAY_COUNT;
+            }
+            if 13 < n {
+                return refusal::DELAY_COUNT;
+            }
+            0
+        }
+        BasicSlotgrantGrantingDelay::AllocStartsAtOpportunityInFr18 => 0,
+        BasicSlotgrantGrantingDelay::WaitForAnotherSlotgrantMessage => 0,
+    }
+}
+
+// The 8 bits of a slot grant as one number.
+pub fn slotgrant_word(g: BasicSlotgrant) -> u64
+    requires { ⌜ slotgrantRefusal g ≡ 0 ⌝ }
+    ensures { λ r. ⌜ RowIs (slotgrantRow g) 8 r ⌝ }
+{
+    let capacity = g.capacity_allocation;
+    let delay = g.granting_delay;
+    cap_alloc::into_raw(capacity) * 16 + granting_delay::into_raw(delay)
+}
+
+// Puts a slot grant into s from pos on.
+pub fn put_slotgrant(s: &mut [u8], pos: usize, g: BasicSlotgrant)
+    requires { ⌜ (pos + 8 ≤ 8 * length (now s)) × (pos ≤ 65536) × (slotgrantRefusal g ≡ 0) ⌝ }
+    ensures { λ r. ⌜ now (s .exit) ≡ putBits (now (s .entry)) pos (rowBits (slotgrantRow g)) ⌝ }
+{
+    let x = slotgrant_word(g);
+    word::put_bits(s, pos, 8, x);
+}
+
+// Writes a slot grant at the cursor.
+pub fn to_bitbuf(s: &mut [u8], c: Cursor, g: BasicSlotgrant) -> Moved
+    ensures { λ r. ⌜ (r ≡ slotgrantWrite (now (s .entry)) c g) × (now (s .exit) ≡ slotgrantWritten (now (s .entry)) c g) ⌝ }
+{
+    let value = slotgrant_refusal(g);
+    let number = codec::write_refusal(s.len(), c, value, 8);
+    if number != 0 {
+        return Moved {
+            cursor: c,
+            answer: Outcome::Refused(number),
+        };
+    }
+    let pos = c.pos;
+    put_slotgrant(s, pos, g);
+    Moved {
+        cursor: codec::moved_by(c, 8),
+        answer: Outcome::Done,
+    }
+}
