@@ -139,11 +139,16 @@ fn reads_at(pos: usize) {
 
 // Reads from the first bit of every byte edge and from the bits around it.
 fn reads() {
-    let mut pos = 0;
-    while pos <= 9 {
-        reads_at(pos);
-        pos += 1;
-    }
+    reads_at(0);
+    reads_at(1);
+    reads_at(2);
+    reads_at(3);
+    reads_at(4);
+    reads_at(5);
+    reads_at(6);
+    reads_at(7);
+    reads_at(8);
+    reads_at(9);
     reads_at(71);
     reads_at(72);
     reads_at(73);
@@ -166,12 +171,12 @@ fn write_at(pos: usize, n: usize, value: u64) {
 }
 
 fn writes_at(pos: usize) {
-    let mut n = 0;
-    while n < 64 {
-        write_at(pos, n, (1u64 << n) - 1);
+    write_at(pos, 0, 0);
+    let mut n = 1;
+    while n <= 64 {
+        write_at(pos, n, 18446744073709551615 >> (64 - n));
         n += 1;
     }
-    write_at(pos, 64, 18446744073709551615);
     write_at(pos, 65, 0);
 }
 
@@ -426,6 +431,22 @@ fn into_slice(c: Cursor, n: usize, buf: &mut [u8]) {
     end();
 }
 
+fn to_bits(c: Cursor, buf: &mut [u8]) {
+    let s = SAMPLE;
+    text(b"to_bitarr");
+    read(bitbuffer::to_bitarr(&s, c, buf));
+    bytes(buf);
+    end();
+}
+
+fn from_bits(c: Cursor, buf: &[u8]) {
+    let mut t = [0u8; 10];
+    text(b"copy_bits_from_bitarr");
+    moved(bitbuffer::copy_bits_from_bitarr(&mut t, c, buf));
+    bytes(&t);
+    end();
+}
+
 fn bitarrs() {
     let mut b = [255u8; 10];
     into_slice(at(0, 4, 136), 0, &mut b);
@@ -437,28 +458,15 @@ fn bitarrs() {
     into_slice(at(0, 4, 68), 65, &mut b);
     into_slice(at(5, 4, 136), 1, &mut b);
     into_slice(at(0, 4, 136), 18446744073709551615, &mut b);
-    let s = SAMPLE;
     let mut a = [9u8; 70];
-    text(b"to_bitarr");
-    read(bitbuffer::to_bitarr(&s, at(0, 67, 136), &mut a));
-    bytes(&a);
-    end();
-    text(b"to_bitarr");
-    read(bitbuffer::to_bitarr(&s, at(0, 66, 136), &mut a));
-    bytes(&a);
-    end();
-    let mut t = [0u8; 10];
-    text(b"copy_bits_from_bitarr");
-    moved(bitbuffer::copy_bits_from_bitarr(&mut t, at(0, 3, 80), &a));
-    bytes(&t);
-    end();
-    a[69] = 2;
-    text(b"copy_bits_from_bitarr");
-    moved(bitbuffer::copy_bits_from_bitarr(&mut t, at(0, 0, 80), &a));
-    moved(bitbuffer::copy_bits_from_bitarr(&mut t, at(0, 0, 72), &a[..69]));
-    moved(bitbuffer::copy_bits_from_bitarr(&mut t, at(0, 4, 72), &a[..69]));
-    bytes(&t);
-    end();
+    to_bits(at(0, 67, 136), &mut a);
+    to_bits(at(0, 66, 136), &mut a);
+    from_bits(at(0, 3, 80), &[1, 0, 1, 1, 0, 0, 1, 0, 1]);
+    from_bits(at(0, 3, 12), &[1, 0, 1, 1, 0, 0, 1, 0, 1]);
+    from_bits(at(0, 3, 11), &[1, 0, 1, 1, 0, 0, 1, 0, 1]);
+    from_bits(at(0, 3, 11), &[1, 0, 1, 1, 0, 0, 1, 0, 2]);
+    from_bits(at(4, 3, 11), &[2]);
+    from_bits(at(0, 6, 80), &[1u8; 70]);
 }
 
 fn main() {
