@@ -146,7 +146,7 @@ module _ (e : ChanAllocElement) (h : channelAllocationRefusal e ≡ 0) where
   -- whatever follows its bits
   pub channel-allocation-back : (rest : List Bool) (o : ℕ)
       → run readChannelAllocation (channelAllocationBits e ++ rest) o ≡ got (normalChannelAllocation e) rest (o + channelAllocationLen e)
-  unfolding readChannelAllocation readMonPatterns channelAllocationRow frame18Row channelAllocationBits channelAllocationLen lenRefusal rowBits
+  unfolding readChannelAllocation readMonPatterns channelAllocationRow frame18Row channelAllocationBits channelAllocationLen lenRefusal normalChannelAllocation rowBits
   channel-allocation-back rest o =
       rw (
         append-assoc (rowBits (channelAllocationRow e)) (rowBits (frame18Row e)) rest,
@@ -228,7 +228,7 @@ fields-again : {a t d c f k x m : ℕ} (p : Frame18Pattern) (ys : List Bool) →
       «frame18_mon_pattern» = p;
     })
     ((((((((bitsOfNat 2 a ++ bitsOfNat 4 t) ++ bitsOfNat 2 d) ++ bitsOfNat 1 c) ++ bitsOfNat 1 f) ++ bitsOfNat 12 k) ++ bitsOfNat 1 x) ++ bitsOfNat 2 m) ++ ys)
-unfolding channelAllocationRefusal frame18Refusal lenRefusal channelAllocationBits channelAllocationRow frame18Row rowBits first
+unfolding channelAllocationRefusal frame18Refusal lenRefusal channelAllocationBits channelAllocationRow frame18Row normalChannelAllocation rowBits first
 fields-again {a} {t} {d} {c} {f} {k} {x} {m} p ys ha ht hd d0 hc hf hk hx x0 hm free stays tail = (
   rw (lt-ltb k 4096 hk, lt-ltb m 4 hm, free, ul-dl-free d hd (eqb-false d 0 d0)),
   rw stays,
