@@ -1,0 +1,15 @@
+pub mod Lists
+pub mod Frames
+pub mod Walks
+pub mod Covering
+pub mod Own
+pub mod Isolation
+pub mod Blocks
+pub mod Held
+pub mod Altered
+pub mod Refusals
+pub mod WrittenBack
+pub mod Calls
+pub mod Runs
+pub mod Demand3
+pub mod Toy
