@@ -1,0 +1,5 @@
+pub mod AccessField
+pub mod Usage
+pub mod AccessAssign
+pub mod Laws
+pub mod Examples

@@ -1,0 +1,331 @@
+// Clause 21.4.7.2, ACCESS-ASSIGN: 14 bits, header 2, field one 6 and field two 6.
+use crate::enums::access_assign_dl_usage as dl_usage;
+use crate::enums::access_assign_dl_usage::AccessAssignDlUsage;
+use crate::enums::access_assign_ul_usage as ul_usage;
+use crate::enums::access_assign_ul_usage::AccessAssignUlUsage;
+use crate::enums::access_assign_ul_usage::UplinkMarker;
+use crate::enums::access_assign_ul_usage::UplinkUsage;
+use crate::enums::access_code::AccessCode;
+use crate::structs::access_field;
+use crate::structs::access_field::AccessField;
+use crate::structs::base_frame_length::BaseFrameLength;
+use tetra_core::bitbuffer;
+use tetra_core::bitbuffer::Cursor;
+use tetra_core::bitbuffer::Moved;
+use tetra_core::bitbuffer::Outcome;
+use tetra_core::refusal;
+use tetra_core::refusal::Refusal;
+use tetra_core::word;
+ghost use mathlib.Core.Path.{_≡_};
+ghost use Prim.Native.Nat.{_+_, _*_, _≤_, _<_};
+ghost use lib.ListN.{length};
+ghost use Rattle.tetra_core.specs.Bits.{putBits};
+ghost use Rattle.tetra_core.specs.Laws.Windows.{Good};
+ghost use Rattle.codec.specs.Header.{within, Reads};
+ghost use Rattle.codec.specs.Row.{rowBits, RowIs};
+ghost use Rattle.access_assign.specs.AccessAssign.{defaultAccessAssign, isDlTraffic, Says, readAccessAssign, accessAssignOut, accessAssignAt, headerNumber, fieldOne, fieldTwo, accessAssignRefusal, accessAssignRow, accessAssignWrite, accessAssignWritten};
+
+pub enum AccessAssign {
+    // Header 0: downlink usage common control, uplink access rights common only
+    DownlinkCommonControlUplinkCommonOnly {
+        access_field_1: AccessField,
+        access_field_2: AccessField,
+    },
+    // Header 1: downlink usage defined by field one, uplink access rights common and assigned
+    DownlinkDefinedUplinkCommonAndAssigned {
+        downlink_usage_marker: AccessAssignDlUsage,
+        access_field: AccessField,
+    },
+    // Header 2: downlink usage defined by field one, uplink access rights assigned only
+    DownlinkDefinedUplinkAssignedOnly {
+        downlink_usage_marker: AccessAssignDlUsage,
+        access_field: AccessField,
+    },
+    // Header 3: downlink usage defined by field one, uplink access rights defined by field two
+    DownlinkDefinedUplinkDefined {
+        downlink_usage_marker: AccessAssignDlUsage,
+        uplink_usage_marker: AccessAssignUlUsage,
+    },
+}
+
+// An ACCESS-ASSIGN, or why there is none.
+pub enum AccessAssignAnswer {
+    Read(AccessAssign),
+    Refused(Refusal),
+}
+
+// What a read answers, and the cursor after it.
+pub struct AccessAssignRead {
+    pub cursor: Cursor,
+    pub answer: AccessAssignAnswer,
+}
+
+// An ACCESS-ASSIGN and the offset after it.
+pub enum AccessAssignPart {
+    Read(AccessAssign, usize),
+    Refused(Refusal),
+}
+
+// Both subslots open to all, code A, in an access frame of four subslots.
+pub fn default_access_assign() -> AccessAssign
+    ensures { λ r. ⌜ r ≡ defaultAccessAssign ⌝ }
+{
+    AccessAssign::DownlinkCommonControlUplinkCommonOnly {
+        access_field_1: AccessField {
+            access_code: AccessCode::AccessCodeA,
+            base_frame_len: BaseFrameLength::Subslots4,
+        },
+        access_field_2: AccessField {
+            access_code: AccessCode::AccessCodeA,
+            base_frame_len: BaseFrameLength::Subslots4,
+        },
+    }
+}
+
+pub fn dl_is_traffic(a: AccessAssign) -> bool
+    ensures { λ r. ⌜ r ≡ isDlTraffic a ⌝ }
+{
+    match a {
+        AccessAssign::DownlinkCommonControlUplinkCommonOnly {
+            access_field_1: _,
+            access_field_2: _,
+        } => false,
+        AccessAssign::DownlinkDefinedUplinkCommonAndAssigned {
+            downlink_usage_marker,
+            access_field: _,
+        } => dl_usage::is_traffic(downlink_usage_marker),
+        AccessAssign::DownlinkDefinedUplinkAssignedOnly {
+            downlink_usage_marker,
+            access_field: _,
+        } => dl_usage::is_traffic(downlink_usage_marker),
+        AccessAssign::DownlinkDefinedUplinkDefined {
+            downlink_usage_marker,
+            uplink_usage_marker: _,
+        } => dl_usage::is_traffic(downlink_usage_marker),
+    }
+}
+
+// What the three fields of an ACCESS-ASSIGN at the offset o of a header say.
+fn access_assign_of(header: u64, one: u64, two: u64, o: usize) -> AccessAssignPart
+    requires { ⌜ (one < 64) × (two < 64) × (o ≤ 65536) ⌝ }
+    ensures { λ r. ⌜ Says header one two o r ⌝ }
+{
+    match header {
+        0 => AccessAssignPart::Read(
+            AccessAssign::DownlinkCommonControlUplinkCommonOnly {
+                access_field_1: access_field::from_raw(one),
+                access_field_2: access_field::from_raw(two),
+            },
+            o + 14,
+        ),
+        1 => AccessAssignPart::Read(
+            AccessAssign::DownlinkDefinedUplinkCommonAndAssigned {
+                downlink_usage_marker: dl_usage::from_usage_marker(one as u8),
+                access_field: access_field::from_raw(two),
+            },
+            o + 14,
+        ),
+        2 => AccessAssignPart::Read(
+            AccessAssign::DownlinkDefinedUplinkAssignedOnly {
+                downlink_usage_marker: dl_usage::from_usage_marker(one as u8),
+                access_field: access_field::from_raw(two),
+            },
+            o + 14,
+        ),
+        _ => match ul_usage::from_usage_marker(two as u8) {
+            UplinkUsage::Usage(uplink_usage_marker) => AccessAssignPart::Read(
+                AccessAssign::DownlinkDefinedUplinkDefined {
+                    downlink_usage_marker: dl_usage::from_usage_marker(one as u8),
+                    uplink_usage_marker,
+                },
+                o + 14,
+            ),
+            UplinkUsage::Nothing => AccessAssignPart::Refused(Refusal {
+                number: refusal::USAGE_MARKER,
+                bit: o + 8,
+            }),
+        },
+    }
+}
+
+// The ACCESS-ASSIGN at the offset o of a header.
+fn read_access_assign(s: &[u8], c: Cursor, o: usize) -> AccessAssignPart
+    requires { ⌜ Good (length (now s)) c ⌝ }
+    ensures { λ r. ⌜ Reads accessAssignOut readAccessAssign (within (now (s .entry)) c) o r ⌝ }
+{
+    let left = codec::left(s, c, o);
+    if left < 14 {
+        let widths = [2u8, 6, 6];
+        return AccessAssignPart::Refused(codec::short(&widths, left, o));
+    }
+    let x = codec::word(s, c, o, 14);
+    access_assign_of((x >> 12) % 4, (x >> 6) % 64, x % 64, o)
+}
+
+// Reads an ACCESS-ASSIGN at the cursor.
+pub fn from_bitbuf(s: &[u8], c: Cursor) -> AccessAssignRead
+    ensures { λ r. ⌜ r ≡ accessAssignAt (now (s .entry)) c ⌝ }
+{
+    if !bitbuffer::good_window(s.len(), c) {
+        return AccessAssignRead {
+            cursor: c,
+            answer: AccessAssignAnswer::Refused(Refusal {
+                number: refusal::BAD_WINDOW,
+                bit: 0,
+            }),
+        };
+    }
+    match read_access_assign(s, c, 0) {
+        AccessAssignPart::Read(a, n) => AccessAssignRead {
+            cursor: codec::moved_by(c, n),
+            answer: AccessAssignAnswer::Read(a),
+        },
+        AccessAssignPart::Refused(r) => AccessAssignRead {
+            cursor: c,
+            answer: AccessAssignAnswer::Refused(r),
+        },
+    }
+}
+
+// Why an ACCESS-ASSIGN is not written, or 0.
+pub fn access_assign_refusal(a: AccessAssign) -> u8
+    ensures { λ r. ⌜ r ≡ accessAssignRefusal a ⌝ }
+{
+    match a {
+        AccessAssign::DownlinkCommonControlUplinkCommonOnly {
+            access_field_1: _,
+            access_field_2: _,
+        } => 0,
+        AccessAssign::DownlinkDefinedUplinkCommonAndAssigned {
+            downlink_usage_marker,
+            access_field: _,
+        } => dl_usage::usage_refusal(downlink_usage_marker),
+        AccessAssign::DownlinkDefinedUplinkAssignedOnly {
+            downlink_usage_marker,
+            access_field: _,
+        } => dl_usage::usage_refusal(downlink_usage_marker),
+        AccessAssign::DownlinkDefinedUplinkDefined {
+            downlink_usage_marker,
+            uplink_usage_marker,
+        } => {
+            let number = dl_usage::usage_refusal(downlink_usage_marker);
+            if number != 0 {
+                return number;
+            }
+            ul_usage::usage_refusal(uplink_usage_marker)
+        }
+    }
+}
+
+// The header of an ACCESS-ASSIGN, 2 bits.
+fn header(a: AccessAssign) -> u64
+    ensures { λ r. ⌜ (r ≡ headerNumber a) × (r < 4) ⌝ }
+{
+    match a {
+        AccessAssign::DownlinkCommonControlUplinkCommonOnly {
+            access_field_1: _,
+            access_field_2: _,
+        } => 0,
+        AccessAssign::DownlinkDefinedUplinkCommonAndAssigned {
+            downlink_usage_marker: _,
+            access_field: _,
+        } => 1,
+        AccessAssign::DownlinkDefinedUplinkAssignedOnly {
+            downlink_usage_marker: _,
+            access_field: _,
+        } => 2,
+        AccessAssign::DownlinkDefinedUplinkDefined {
+            downlink_usage_marker: _,
+            uplink_usage_marker: _,
+        } => 3,
+    }
+}
+
+// Field one of an ACCESS-ASSIGN.
+fn field_one(a: AccessAssign) -> u64
+    ensures { λ r. ⌜ (r ≡ fieldOne a) × (r < 256) ⌝ }
+{
+    match a {
+        AccessAssign::DownlinkCommonControlUplinkCommonOnly {
+            access_field_1,
+            access_field_2: _,
+        } => access_field::into_raw(access_field_1),
+        AccessAssign::DownlinkDefinedUplinkCommonAndAssigned {
+            downlink_usage_marker,
+            access_field: _,
+        } => dl_usage::to_usage_marker(downlink_usage_marker) as u64,
+        AccessAssign::DownlinkDefinedUplinkAssignedOnly {
+            downlink_usage_marker,
+            access_field: _,
+        } => dl_usage::to_usage_marker(downlink_usage_marker) as u64,
+        AccessAssign::DownlinkDefinedUplinkDefined {
+            downlink_usage_marker,
+            uplink_usage_marker: _,
+        } => dl_usage::to_usage_marker(downlink_usage_marker) as u64,
+    }
+}
+
+// Field two of an ACCESS-ASSIGN.
+fn field_two(a: AccessAssign) -> u64
+    ensures { λ r. ⌜ (r ≡ fieldTwo a) × (r < 256) ⌝ }
+{
+    match a {
+        AccessAssign::DownlinkCommonControlUplinkCommonOnly {
+            access_field_1: _,
+            access_field_2,
+        } => access_field::into_raw(access_field_2),
+        AccessAssign::DownlinkDefinedUplinkCommonAndAssigned {
+            downlink_usage_marker: _,
+            access_field,
+        } => access_field::into_raw(access_field),
+        AccessAssign::DownlinkDefinedUplinkAssignedOnly {
+            downlink_usage_marker: _,
+            access_field,
+        } => access_field::into_raw(access_field),
+        AccessAssign::DownlinkDefinedUplinkDefined {
+            downlink_usage_marker: _,
+            uplink_usage_marker,
+        } => match ul_usage::to_usage_marker(uplink_usage_marker) {
+            UplinkMarker::Marker(marker) => marker as u64,
+            // refused before it is written
+            UplinkMarker::Nothing => 0,
+        },
+    }
+}
+
+// The 14 bits of an ACCESS-ASSIGN as one number.
+fn access_assign_word(a: AccessAssign) -> u64
+    requires { ⌜ accessAssignRefusal a ≡ 0 ⌝ }
+    ensures { λ r. ⌜ RowIs (accessAssignRow a) 14 r ⌝ }
+{
+    header(a) * 4096 + (field_one(a) * 64 + field_two(a))
+}
+
+// Puts an ACCESS-ASSIGN into s from pos on.
+fn put_access_assign(s: &mut [u8], pos: usize, a: AccessAssign)
+    requires { ⌜ (pos + 14 ≤ 8 * length (now s)) × (pos ≤ 65536) × (accessAssignRefusal a ≡ 0) ⌝ }
+    ensures { λ r. ⌜ now (s .exit) ≡ putBits (now (s .entry)) pos (rowBits (accessAssignRow a)) ⌝ }
+{
+    let x = access_assign_word(a);
+    word::put_bits(s, pos, 14, x);
+}
+
+// Writes an ACCESS-ASSIGN at the cursor.
+pub fn to_bitbuf(s: &mut [u8], c: Cursor, a: AccessAssign) -> Moved
+    ensures { λ r. ⌜ (r ≡ accessAssignWrite (now (s .entry)) c a) × (now (s .exit) ≡ accessAssignWritten (now (s .entry)) c a) ⌝ }
+{
+    let value = access_assign_refusal(a);
+    let number = codec::write_refusal(s.len(), c, value, 14);
+    if number != 0 {
+        return Moved {
+            cursor: c,
+            answer: Outcome::Refused(number),
+        };
+    }
+    let pos = c.pos;
+    put_access_assign(s, pos, a);
+    Moved {
+        cursor: codec::moved_by(c, 14),
+        answer: Outcome::Done,
+    }
+}
