@@ -26,7 +26,7 @@ use Rattle.access_assign.specs.declared.access_assign.AccessAssignPart.t
 
 -- ---- what is read
 
--- what the three fields say, of which the second usage begins at an offset
+-- what the three fields say; field two begins at the offset `second`
 unfoldable pub accessAssignOf : ℕ → ℕ → ℕ → ℕ → Reader AccessAssign
 accessAssignOf header one two second =
     choose (eqb header 0) (done (DownlinkCommonControlUplinkCommonOnly (accessFieldOf one) (accessFieldOf two)))
@@ -34,7 +34,7 @@ accessAssignOf header one two second =
     (choose (eqb header 2) (done (DownlinkDefinedUplinkAssignedOnly (dlUsageOf one) (accessFieldOf two)))
     (choose (ulMarks two) (done (DownlinkDefinedUplinkDefined (dlUsageOf one) (ulUsageOf two))) (refuse 7 second))))
 
--- all three are there before the header tells what the others are
+-- all three fields are there before any is judged
 unfoldable pub readAccessAssign : Reader AccessAssign
 readAccessAssign = do
   header ← field 2 done
@@ -91,7 +91,7 @@ accessAssignWrite s c a = writeAt s c (accessAssignRefusal a) (rowBits (accessAs
 abbrev pub accessAssignWritten : List ℕ → Cursor → AccessAssign → List ℕ
 accessAssignWritten s c a = writtenAt s c (accessAssignRefusal a) (rowBits (accessAssignRow a))
 
--- ---- the default, and a question
+-- ---- the default, and whether the downlink is traffic
 
 abbrev pub defaultField : AccessField
 defaultField = record { «access_code» = AccessCodeA; «base_frame_len» = Subslots4 }

@@ -105,6 +105,16 @@ pub fn dl_is_traffic(a: AccessAssign) -> bool
     }
 }
 
+// The refusal of an uplink marker that marks nothing.
+fn unmarked(bit: usize) -> Refusal
+    ensures { λ r. ⌜ r ≡ record { number = 7; bit = bit } ⌝ }
+{
+    Refusal {
+        number: refusal::USAGE_MARKER,
+        bit,
+    }
+}
+
 // What the three fields of an ACCESS-ASSIGN at the offset o of a header say.
 fn access_assign_of(header: u64, one: u64, two: u64, o: usize) -> AccessAssignPart
     requires { ⌜ (one < 64) × (two < 64) × (o ≤ 65536) ⌝ }
@@ -140,10 +150,7 @@ fn access_assign_of(header: u64, one: u64, two: u64, o: usize) -> AccessAssignPa
                 },
                 o + 14,
             ),
-            UplinkUsage::Nothing => AccessAssignPart::Refused(Refusal {
-                number: refusal::USAGE_MARKER,
-                bit: o + 8,
-            }),
+            UplinkUsage::Nothing => AccessAssignPart::Refused(unmarked(o + 8)),
         },
     }
 }

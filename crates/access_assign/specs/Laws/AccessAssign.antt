@@ -1,4 +1,5 @@
--- An ACCESS-ASSIGN has 14 bits. One that nothing refuses is read back, and one that is read is written again as the same bits.
+-- An ACCESS-ASSIGN has 14 bits. One that nothing refuses is read back, and one that is read is not refused and is written as the same
+-- bits: so nothing is refused but what no bits can say.
 use Prim.Native.Nat.{ℕ, zero, suc, _+_, _*_, _/_, _%_, _≤_, _<_}
 use mathlib.Core.Path.{_≡_, refl, sym, ap, _∙_}
 use mathlib.Core.List.{List, [], _∷_, _++_}
@@ -44,7 +45,8 @@ access-assign-length a = length-row (accessAssignRow a)
 record FieldsBack (a : AccessAssign) : Type 0 where
   one : fieldOne a < 64
   two : fieldTwo a < 64
-  back : (second : ℕ) (rest : List Bool) (o : ℕ) → give (accessAssignOf (headerNumber a) (fieldOne a) (fieldTwo a) second) [] 14 rest o ≡ got a rest (o + 14)
+  back : (second : ℕ) (rest : List Bool) (o : ℕ)
+      → give (accessAssignOf (headerNumber a) (fieldOne a) (fieldTwo a) second) [] 14 rest o ≡ got a rest (o + 14)
 
 fields-back : (a : AccessAssign) → accessAssignRefusal a ≡ 0 → FieldsBack a
 unfolding accessAssignOf

@@ -28,11 +28,10 @@ returns-4 c = λ h.
 returns-5 : tie.Need-returns-5
 unfolding accessAssignOf
 returns-5 c = λ h.
-    let m = c .before .before in
+    let m = c .before .before .before in
     let r = m .before .match .rest in
-    record {
-      means = rw (ne-eqb _ _ (r .0 .0 .1), ne-eqb _ _ (r .0 .1), ne-eqb _ _ (r .1), ul-missing _ (m .from-usage-marker3 .ensures) (c .enum-told .given .1));
-    }
+    let u = ul-missing _ (m .from-usage-marker3 .ensures) (c .before .enum-told .given .1) in
+    record { means = rw (ne-eqb _ _ (r .0 .0 .1), ne-eqb _ _ (r .0 .1), ne-eqb _ _ (r .1), u, c .unmarked .ensures) }
 
 pub access-assign-of-spec : {M : Type 1} → statement M
 access-assign-of-spec =
@@ -57,6 +56,7 @@ access-assign-of-spec =
     (λ c. search needs)
     (λ c. search needs)
     (λ c. search needs)
+    (λ c κs. search needs)
     returns
     returns-2
     returns-3

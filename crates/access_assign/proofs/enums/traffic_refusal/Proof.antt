@@ -1,3 +1,4 @@
+use native.Mathlib.Omega.{arith}
 use borrow.Author.Tests.{le-leb, lt-leb}
 use Rattle.tetra_core.specs.Refusal.{first}
 use Rattle.access_assign.specs.Usage.{trafficRefusal}
@@ -9,6 +10,6 @@ unfolding trafficRefusal first
 traffic-refusal-spec =
     tie.close
     (tie.spec
-    (λ c. rw (lt-leb _ _ (c .if1 .taken)))
-    (λ c. rw (le-leb _ _ (c .before .if1 .left), lt-leb _ _ (c .if2 .taken)))
-    (λ c. rw (le-leb _ _ (c .before .if1 .left), le-leb _ _ (c .if2 .left))))
+    (λ c. rw (lt-leb (c .before .args .chan) 63 (omega arith)))
+    (λ c. let n = c .before .before .args .chan in rw (le-leb n 63 (omega arith), lt-leb 4 n (omega arith)))
+    (λ c. let n = c .before .before .args .chan in rw (le-leb n 63 (omega arith), le-leb 4 n (omega arith))))

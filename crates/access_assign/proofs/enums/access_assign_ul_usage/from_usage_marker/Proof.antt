@@ -1,3 +1,4 @@
+use native.Mathlib.Omega.{arith}
 use borrow.Author.Tests.{ne-eqb, le-leb, lt-leb}
 use Rattle.access_assign.specs.Usage.{ulUsageOf, ulUsage}
 use Rattle.access_assign.proofs.enums.access_assign_ul_usage.from_usage_marker.Statement.{statement}
@@ -9,5 +10,5 @@ from-usage-marker-spec =
     tie.close
     (tie.spec
     (λ c. rw (c .if1 .taken))
-    (λ c. rw (ne-eqb _ _ (c .before .if1 .left), lt-leb _ _ (c .if2 .taken)))
-    (λ c. rw (ne-eqb _ _ (c .before .if1 .left), le-leb _ _ (c .if2 .left))))
+    (λ c. let n = c .before .before .args .field in rw (ne-eqb n 0 (c .before .if1 .left), lt-leb 4 n (omega arith)))
+    (λ c. let n = c .before .before .args .field in rw (ne-eqb n 0 (c .before .if1 .left), le-leb 4 n (omega arith))))
