@@ -1,2 +1,7 @@
 -- The laws of the fields that other crates cite.
+pub mod Rows
+pub mod Again
 pub mod BasicSlotgrant
+pub mod ReservationRequirement
+pub mod UplinkAddress
+pub mod UplinkHead

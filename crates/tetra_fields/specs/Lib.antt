@@ -1,2 +1,5 @@
 pub mod BasicSlotgrant
+pub mod ReservationRequirement
+pub mod UplinkAddress
+pub mod UplinkHead
 pub mod Laws
