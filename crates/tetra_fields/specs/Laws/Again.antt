@@ -1,5 +1,5 @@
 -- What was read, written again: a reader that gives a value has read fields, and they are the row of that value.
-use Prim.Native.Nat.{ℕ, zero, suc, _+_, _*_, _^_, _≤_, _<_}
+use Prim.Native.Nat.{ℕ, zero, suc, _+_, _-_, _*_, _^_, _≤_, _<_}
 use mathlib.Core.Path.{_≡_, refl, sym, ap, _∙_}
 use mathlib.Core.List.{List, [], _∷_, _++_, append-assoc}
 use mathlib.Core.Bool.{Bool, true, false, _&&_}
@@ -7,7 +7,7 @@ use native.Mathlib.Omega.{arith}
 use lib.ListN.{length, take, drop, getD, take-append-drop}
 use lib.Dec.{leb, eqb}
 use lib.Seq.{length-take-le, take-at, take-take, drop-drop}
-use borrow.Author.Tests.{leb-true, leb-false, eqb-true}
+use borrow.Author.Tests.{leb-true, leb-false, eqb-true, eqb-false}
 use Rattle.tetra_core.specs.Bits.{digit, val, bitsOfNat, bitsOf, splice, bitsAt, putBits, Bytes}
 use Rattle.tetra_core.specs.BitBuffer.{goodWindow, remaining, moved}
 use Rattle.tetra_core.specs.Laws.Bytes.{bitsOf-inj}
@@ -120,15 +120,23 @@ put-same s p n b h =
     bitsOf-inj (putBits s p (bitsAt s p n)) s (bytes-putBits s p (bitsAt s p n)) b
     (bitsOf-putBits s p (bitsAt s p n) (rw l h) ∙ rw (l, ← drop-drop n p (bitsOf s), take-append-drop, take-append-drop))
 
+-- the bits that were read are those between the two cursors
+pub read-bits : {A : Type 0} {p : Reader A} {s : List ℕ} {c d : Cursor} {v : A} (h : ReadAt p s c v d) → take (h .count) (within s c) ≡ bitsAt s (c .pos) (d .pos - c .pos)
+unfolding within
+read-bits {p = p} {s} {c} {d} h =
+    let g = h .good in
+    let room = ends p s c g (h .seen) in
+    let n : d .pos - c .pos ≡ h .count = rw (h .after) (omega arith) in
+    rw (n, at-is, at-is, take-take (h .count) (remaining c) (drop (c .pos) (bitsOf s)) (omega arith))
+
 -- the bits xs of the value that was read are written at the same cursor
 pub written-again : {A : Type 0} {p : Reader A} {s : List ℕ} {c d : Cursor} {v : A} (h : ReadAt p s c v d) (xs : List Bool) {j : ℕ} → Bytes s
     → xs ≡ take (h .count) (within s c) → j ≡ 0 → (writeAt s c j xs ≡ record { cursor = d; answer = Done }) × (writtenAt s c j xs ≡ s)
-unfolding within
-written-again {p = p} {s} {c} h xs {j} b e z =
+written-again {p = p} {s} {c} {d} h xs {j} b e z =
     let g = h .good in
     let n = h .count in
     let room = ends p s c g (h .seen) in
-    let same : xs ≡ bitsAt s (c .pos) n = e ∙ rw (at-is, at-is, take-take n (remaining c) (drop (c .pos) (bitsOf s)) (omega arith)) in
+    let same : xs ≡ bitsAt s (c .pos) n = e ∙ read-bits h ∙ rw (h .after) (ap (bitsAt s (c .pos)) (omega arith)) in
     let l : length xs ≡ n = ap length same ∙ length-bitsAt s (c .pos) n (omega arith) in
     let w = write-done s c xs {j = j} l refl refl (free-test (length s) c j n (record { good = g; value = z; room = room }))
     (sym (put-same s (c .pos) n b (omega arith)) ∙ ap (putBits s (c .pos)) (sym same)) in
@@ -141,6 +149,10 @@ pub flag-again : (v : ℕ) → v < 2 → digit (flag v) ≡ v
 flag-again zero h = refl
 flag-again (suc zero) h = refl
 flag-again (suc (suc v)) h = absurd (omega arith)
+
+-- a bit that is not 0
+pub one-again : (v : ℕ) → v < 2 → eqb v 0 ≡ false → v ≡ 1
+one-again v h e = omega (arith, eqb-false v 0 e)
 
 -- the cases have the numbers from k on, in order
 abbrev pub numbered : {A : Type 0} → (A → ℕ) → List A → A → ℕ → Bool

@@ -7,7 +7,7 @@ use tetra_core::bitbuffer::Cursor;
 use tetra_core::refusal;
 use tetra_core::refusal::Refusal;
 ghost use mathlib.Core.Path.{_≡_};
-ghost use Prim.Native.Nat.{_+_, _≤_};
+ghost use Prim.Native.Nat.{_≤_, _<_};
 ghost use lib.ListN.{length};
 ghost use Rattle.tetra_core.specs.Laws.Windows.{Good};
 ghost use Rattle.codec.specs.Header.{within, Reads};
@@ -97,7 +97,7 @@ pub fn uplink_refusal(encrypted: bool, a: UplinkAddress, option: u8) -> u8
 // A head as one number. The PDU type is 0 and adds nothing.
 pub fn uplink_word(h: UplinkHead) -> u64
     requires { ⌜ uplinkAddressRefusal (h .addr) ≡ 0 ⌝ }
-    ensures { λ r. ⌜ RowIs (uplinkBodyRow h) (bodySize (h .addr)) r ⌝ }
+    ensures { λ r. ⌜ RowIs (uplinkBodyRow h) (bodySize (h .addr)) r × (r < 268435456) ⌝ }
 {
     let addr = h.addr;
     let kind = address::uplink_address_type(addr) as u64;

@@ -1,3 +1,4 @@
+use native.Mathlib.Omega.{arith}
 use borrow.Author.Needs.{needs}
 use borrow.Author.Tests.{eq-eqb, ne-eqb}
 use Rattle.tetra_fields.specs.UplinkAddress.{uplinkWidth}
@@ -12,7 +13,7 @@ returns c =
     let t = b .before .before in
     let k = t .uplink-address-type .ensures in
     rw (c .before .uplink-number .ensures .0, b .before .bit .ensures .0, b .bit2 .ensures .0, ← k, eq-eqb _ _ (c .if1 .taken))
-    (rw (← k, eq-eqb _ _ (c .if1 .taken)) at (body-word (t .before .args .h) (t .before .pre)))
+    (let w = rw (← k, eq-eqb _ _ (c .if1 .taken)) at (body-word (t .before .args .h) (t .before .pre)) in (w, omega (arith, w .small)))
 
 returns-2 : tie.Need-returns-2
 unfolding uplinkWidth
@@ -21,7 +22,7 @@ returns-2 c =
     let t = b .before .before in
     let k = t .uplink-address-type .ensures in
     rw (c .before .uplink-number .ensures .0, b .before .bit .ensures .0, b .bit2 .ensures .0, ← k, ne-eqb _ _ (c .if1 .left))
-    (rw (← k, ne-eqb _ _ (c .if1 .left)) at (body-word (t .before .args .h) (t .before .pre)))
+    (let w = rw (← k, ne-eqb _ _ (c .if1 .left)) at (body-word (t .before .args .h) (t .before .pre)) in (w, omega (arith, w .small)))
 
 pub uplink-word-spec : {M : Type 1} → statement M
 uplink-word-spec =
