@@ -1,3 +1,8 @@
 -- The laws of the fields that other crates cite.
+pub mod Rows
+pub mod Again
 pub mod BasicSlotgrant
 pub mod ChannelAllocation
+pub mod ReservationRequirement
+pub mod UplinkAddress
+pub mod UplinkHead

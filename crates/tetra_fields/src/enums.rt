@@ -2,4 +2,5 @@
 pub mod alloc_type;
 pub mod basic_slotgrant_cap_alloc;
 pub mod basic_slotgrant_granting_delay;
+pub mod reservation_requirement;
 pub mod ul_dl_assignment;

@@ -1,0 +1,3 @@
+pub mod MacAccess
+pub mod Laws
+pub mod Examples

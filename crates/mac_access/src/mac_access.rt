@@ -1,0 +1,278 @@
+// Clause 21.4.2.1, MAC-ACCESS: PDU type 1, fill 1, encrypted 1, address type 2, address, option flag 1 and, if set, 6 bits more.
+use tetra_core::address::UplinkAddress;
+use tetra_core::bitbuffer;
+use tetra_core::bitbuffer::Cursor;
+use tetra_core::bitbuffer::Moved;
+use tetra_core::bitbuffer::Outcome;
+use tetra_core::refusal;
+use tetra_core::refusal::Refusal;
+use tetra_core::word;
+use tetra_fields::enums::reservation_requirement;
+use tetra_fields::enums::reservation_requirement::ReservationRequirement;
+use tetra_fields::fields::uplink_head;
+use tetra_fields::fields::uplink_head::UplinkHead;
+use tetra_fields::fields::uplink_head::UplinkHeadPart;
+ghost use mathlib.Core.Path.{_≡_};
+ghost use Prim.Native.Nat.{_≤_};
+ghost use lib.ListN.{length};
+ghost use Rattle.tetra_core.specs.Laws.Windows.{Good};
+ghost use Rattle.codec.specs.Header.{within, Reads};
+ghost use Rattle.codec.specs.Row.{RowIs, size};
+ghost use Rattle.mac_access.specs.MacAccess.{isNullPdu, isFragStart, readChosen, readOption, optionOut, readMacAccess, macAccessOut, macAccessAt, optionRow, macAccessRow, macAccessSize, optionRefusal, macAccessRefusal, macAccessWrite, macAccessWritten};
+
+// What follows the option flag.
+pub enum MacAccessOption {
+    // The flag is not set.
+    Without,
+    // 5 bits
+    LengthInd(u8),
+    // frag_flag, 1 bit, and reservation_req, 4 bits
+    CapacityRequest(bool, ReservationRequirement),
+}
+
+pub struct MacAccess {
+    pub fill_bits: bool,
+    pub encrypted: bool,
+    pub addr: UplinkAddress,
+    pub option: MacAccessOption,
+}
+
+// A MAC-ACCESS, or why there is none.
+pub enum MacAccessAnswer {
+    Read(MacAccess),
+    Refused(Refusal),
+}
+
+// What a read answers, and the cursor after it.
+pub struct MacAccessRead {
+    pub cursor: Cursor,
+    pub answer: MacAccessAnswer,
+}
+
+// A MAC-ACCESS and the offset after it.
+pub enum MacAccessPart {
+    Read(MacAccess, usize),
+    Refused(Refusal),
+}
+
+// What follows the address, and the offset after it.
+pub enum OptionPart {
+    Read(MacAccessOption, usize),
+    Refused(Refusal),
+}
+
+pub fn is_null_pdu(h: MacAccess) -> bool
+    ensures { λ r. ⌜ r ≡ isNullPdu (h .option) ⌝ }
+{
+    let option = h.option;
+    match option {
+        MacAccessOption::Without => false,
+        MacAccessOption::LengthInd(n) => n == 0,
+        MacAccessOption::CapacityRequest(_, _) => false,
+    }
+}
+
+pub fn is_frag_start(h: MacAccess) -> bool
+    ensures { λ r. ⌜ r ≡ isFragStart (h .option) ⌝ }
+{
+    let option = h.option;
+    match option {
+        MacAccessOption::Without => false,
+        MacAccessOption::LengthInd(_) => false,
+        MacAccessOption::CapacityRequest(frag_flag, _) => frag_flag,
+    }
+}
+
+// What follows a set option flag, at the offset o of a header.
+fn read_chosen(s: &[u8], c: Cursor, o: usize) -> OptionPart
+    requires { ⌜ Good (length (now s)) c ⌝ }
+    ensures { λ r. ⌜ Reads optionOut readChosen (within (now (s .entry)) c) o r ⌝ }
+{
+    let left = codec::left(s, c, o);
+    if left < 1 {
+        return OptionPart::Refused(Refusal {
+            number: refusal::READ_PAST_END,
+            bit: o,
+        });
+    }
+    if left < 6 {
+        let o1 = o + 1;
+        if codec::word(s, c, o, 1) == 0 {
+            return OptionPart::Refused(Refusal {
+                number: refusal::READ_PAST_END,
+                bit: o1,
+            });
+        }
+        let widths = [1u8, 4];
+        return OptionPart::Refused(codec::short(&widths, left - 1, o1));
+    }
+    let x = codec::word(s, c, o, 6);
+    if (x >> 5) % 2 == 0 {
+        return OptionPart::Read(MacAccessOption::LengthInd((x % 32) as u8), o + 6);
+    }
+    OptionPart::Read(
+        MacAccessOption::CapacityRequest(
+            (x >> 4) % 2 != 0,
+            reservation_requirement::from_raw(x % 16),
+        ),
+        o + 6,
+    )
+}
+
+// The option flag and what follows it, at the offset o of a header.
+fn read_option(s: &[u8], c: Cursor, o: usize) -> OptionPart
+    requires { ⌜ Good (length (now s)) c ⌝ }
+    ensures { λ r. ⌜ Reads optionOut readOption (within (now (s .entry)) c) o r ⌝ }
+{
+    if codec::left(s, c, o) < 1 {
+        return OptionPart::Refused(Refusal {
+            number: refusal::READ_PAST_END,
+            bit: o,
+        });
+    }
+    let o1 = o + 1;
+    if codec::word(s, c, o, 1) == 0 {
+        return OptionPart::Read(MacAccessOption::Without, o1);
+    }
+    read_chosen(s, c, o1)
+}
+
+// The MAC-ACCESS at the offset o of a window.
+fn read_mac_access(s: &[u8], c: Cursor, o: usize) -> MacAccessPart
+    requires { ⌜ Good (length (now s)) c ⌝ }
+    ensures { λ r. ⌜ Reads macAccessOut readMacAccess (within (now (s .entry)) c) o r ⌝ }
+{
+    match uplink_head::read_uplink_head(s, c, o, 1) {
+        UplinkHeadPart::Refused(r) => MacAccessPart::Refused(r),
+        UplinkHeadPart::Read(head, at) => match read_option(s, c, at) {
+            OptionPart::Refused(r) => MacAccessPart::Refused(r),
+            OptionPart::Read(option, n) => {
+                let addr = head.addr;
+                MacAccessPart::Read(
+                    MacAccess {
+                        fill_bits: head.fill_bits,
+                        encrypted: head.encrypted,
+                        addr,
+                        option,
+                    },
+                    n,
+                )
+            }
+        },
+    }
+}
+
+// Reads a MAC-ACCESS at the cursor.
+pub fn from_bitbuf(s: &[u8], c: Cursor) -> MacAccessRead
+    ensures { λ r. ⌜ r ≡ macAccessAt (now (s .entry)) c ⌝ }
+{
+    if !bitbuffer::good_window(s.len(), c) {
+        return MacAccessRead {
+            cursor: c,
+            answer: MacAccessAnswer::Refused(Refusal {
+                number: refusal::BAD_WINDOW,
+                bit: 0,
+            }),
+        };
+    }
+    match read_mac_access(s, c, 0) {
+        MacAccessPart::Read(h, n) => MacAccessRead {
+            cursor: codec::moved_by(c, n),
+            answer: MacAccessAnswer::Read(h),
+        },
+        MacAccessPart::Refused(r) => MacAccessRead {
+            cursor: c,
+            answer: MacAccessAnswer::Refused(r),
+        },
+    }
+}
+
+// Why an option is not written, or 0.
+fn option_refusal(option: MacAccessOption) -> u8
+    ensures { λ r. ⌜ r ≡ optionRefusal option ⌝ }
+{
+    match option {
+        MacAccessOption::Without => 0,
+        MacAccessOption::LengthInd(n) => {
+            if 31 < n {
+                return refusal::VALUE_TOO_WIDE;
+            }
+            0
+        }
+        MacAccessOption::CapacityRequest(_, _) => 0,
+    }
+}
+
+// Why a MAC-ACCESS is not written, or 0.
+pub fn mac_access_refusal(h: MacAccess) -> u8
+    ensures { λ r. ⌜ r ≡ macAccessRefusal h ⌝ }
+{
+    let addr = h.addr;
+    let option = h.option;
+    uplink_head::uplink_refusal(h.encrypted, addr, option_refusal(option))
+}
+
+// The bits of an option.
+fn option_size(option: MacAccessOption) -> usize
+    ensures { λ r. ⌜ (r ≡ size (optionRow option)) × (r ≤ 7) ⌝ }
+{
+    match option {
+        MacAccessOption::Without => 1,
+        MacAccessOption::LengthInd(_) => 7,
+        MacAccessOption::CapacityRequest(_, _) => 7,
+    }
+}
+
+// The bits of a MAC-ACCESS.
+pub fn mac_access_size(h: MacAccess) -> usize
+    ensures { λ r. ⌜ (r ≡ macAccessSize h) × (r ≤ 64) ⌝ }
+{
+    let addr = h.addr;
+    let option = h.option;
+    uplink_head::uplink_size(1, addr) + option_size(option)
+}
+
+// A MAC-ACCESS as one number.
+fn mac_access_word(h: MacAccess) -> u64
+    requires { ⌜ macAccessRefusal h ≡ 0 ⌝ }
+    ensures { λ r. ⌜ RowIs (macAccessRow h) (macAccessSize h) r ⌝ }
+{
+    let addr = h.addr;
+    let option = h.option;
+    let head = uplink_head::uplink_word(UplinkHead {
+        fill_bits: h.fill_bits,
+        encrypted: h.encrypted,
+        addr,
+    });
+    match option {
+        MacAccessOption::Without => head * 2,
+        MacAccessOption::LengthInd(n) => head * 128 + (1 * 64 + (0 * 32 + n as u64)),
+        MacAccessOption::CapacityRequest(frag_flag, reservation_req) => {
+            let frag = codec::bit(frag_flag);
+            let req = reservation_requirement::into_raw(reservation_req);
+            head * 128 + (1 * 64 + (1 * 32 + (frag * 16 + req)))
+        }
+    }
+}
+
+// Writes a MAC-ACCESS at the cursor.
+pub fn to_bitbuf(s: &mut [u8], c: Cursor, h: MacAccess) -> Moved
+    ensures { λ r. ⌜ (r ≡ macAccessWrite (now (s .entry)) c h) × (now (s .exit) ≡ macAccessWritten (now (s .entry)) c h) ⌝ }
+{
+    let value = mac_access_refusal(h);
+    let n = mac_access_size(h);
+    let number = codec::write_refusal(s.len(), c, value, n);
+    if number != 0 {
+        return Moved {
+            cursor: c,
+            answer: Outcome::Refused(number),
+        };
+    }
+    let pos = c.pos;
+    let x = mac_access_word(h);
+    word::put_bits(s, pos, n, x);
+    Moved {
+        cursor: codec::moved_by(c, n),
+        answer: Outcome::Done,
+    }
+}

@@ -1,0 +1,3 @@
+pub mod MacData
+pub mod Laws
+pub mod Examples

@@ -1,0 +1,230 @@
+// Clause 21.4.2.3, MAC-DATA: PDU type 2, fill 1, encrypted 1, address type 2, address, selector 1 and 6 bits more.
+use tetra_core::address::UplinkAddress;
+use tetra_core::bitbuffer;
+use tetra_core::bitbuffer::Cursor;
+use tetra_core::bitbuffer::Moved;
+use tetra_core::bitbuffer::Outcome;
+use tetra_core::refusal;
+use tetra_core::refusal::Refusal;
+use tetra_core::word;
+use tetra_fields::enums::reservation_requirement;
+use tetra_fields::enums::reservation_requirement::ReservationRequirement;
+use tetra_fields::fields::uplink_head;
+use tetra_fields::fields::uplink_head::UplinkHead;
+use tetra_fields::fields::uplink_head::UplinkHeadPart;
+ghost use mathlib.Core.Path.{_≡_};
+ghost use Prim.Native.Nat.{_≤_};
+ghost use lib.ListN.{length};
+ghost use Rattle.tetra_core.specs.Laws.Windows.{Good};
+ghost use Rattle.codec.specs.Header.{within, Reads};
+ghost use Rattle.codec.specs.Row.{RowIs};
+ghost use Rattle.mac_data.specs.MacData.{readOption, optionOut, readMacData, macDataOut, macDataAt, optionRow, macDataRow, macDataSize, optionRefusal, macDataRefusal, macDataWrite, macDataWritten};
+
+// What follows the address.
+pub enum MacDataOption {
+    // 6 bits
+    LengthInd(u8),
+    // frag_flag, 1 bit, and reservation_req, 4 bits; a reserved bit follows
+    CapacityRequest(bool, ReservationRequirement),
+}
+
+pub struct MacData {
+    pub fill_bits: bool,
+    pub encrypted: bool,
+    pub addr: UplinkAddress,
+    pub option: MacDataOption,
+}
+
+// A MAC-DATA, or why there is none.
+pub enum MacDataAnswer {
+    Read(MacData),
+    Refused(Refusal),
+}
+
+// What a read answers, and the cursor after it.
+pub struct MacDataRead {
+    pub cursor: Cursor,
+    pub answer: MacDataAnswer,
+}
+
+// A MAC-DATA and the offset after it.
+pub enum MacDataPart {
+    Read(MacData, usize),
+    Refused(Refusal),
+}
+
+// What follows the address, and the offset after it.
+pub enum OptionPart {
+    Read(MacDataOption, usize),
+    Refused(Refusal),
+}
+
+// What follows the address, at the offset o of a header.
+fn read_option(s: &[u8], c: Cursor, o: usize) -> OptionPart
+    requires { ⌜ Good (length (now s)) c ⌝ }
+    ensures { λ r. ⌜ Reads optionOut readOption (within (now (s .entry)) c) o r ⌝ }
+{
+    let left = codec::left(s, c, o);
+    if left < 1 {
+        return OptionPart::Refused(Refusal {
+            number: refusal::READ_PAST_END,
+            bit: o,
+        });
+    }
+    if left < 7 {
+        let o1 = o + 1;
+        if codec::word(s, c, o, 1) == 0 {
+            return OptionPart::Refused(Refusal {
+                number: refusal::READ_PAST_END,
+                bit: o1,
+            });
+        }
+        let widths = [1u8, 4, 1];
+        return OptionPart::Refused(codec::short(&widths, left - 1, o1));
+    }
+    let x = codec::word(s, c, o, 7);
+    if (x >> 6) % 2 == 0 {
+        return OptionPart::Read(MacDataOption::LengthInd((x % 64) as u8), o + 7);
+    }
+    OptionPart::Read(
+        MacDataOption::CapacityRequest(
+            (x >> 5) % 2 != 0,
+            reservation_requirement::from_raw((x >> 1) % 16),
+        ),
+        o + 7,
+    )
+}
+
+// The MAC-DATA at the offset o of a window.
+fn read_mac_data(s: &[u8], c: Cursor, o: usize) -> MacDataPart
+    requires { ⌜ Good (length (now s)) c ⌝ }
+    ensures { λ r. ⌜ Reads macDataOut readMacData (within (now (s .entry)) c) o r ⌝ }
+{
+    match uplink_head::read_uplink_head(s, c, o, 2) {
+        UplinkHeadPart::Refused(r) => MacDataPart::Refused(r),
+        UplinkHeadPart::Read(head, at) => match read_option(s, c, at) {
+            OptionPart::Refused(r) => MacDataPart::Refused(r),
+            OptionPart::Read(option, n) => {
+                let addr = head.addr;
+                MacDataPart::Read(
+                    MacData {
+                        fill_bits: head.fill_bits,
+                        encrypted: head.encrypted,
+                        addr,
+                        option,
+                    },
+                    n,
+                )
+            }
+        },
+    }
+}
+
+// Reads a MAC-DATA at the cursor.
+pub fn from_bitbuf(s: &[u8], c: Cursor) -> MacDataRead
+    ensures { λ r. ⌜ r ≡ macDataAt (now (s .entry)) c ⌝ }
+{
+    if !bitbuffer::good_window(s.len(), c) {
+        return MacDataRead {
+            cursor: c,
+            answer: MacDataAnswer::Refused(Refusal {
+                number: refusal::BAD_WINDOW,
+                bit: 0,
+            }),
+        };
+    }
+    match read_mac_data(s, c, 0) {
+        MacDataPart::Read(h, n) => MacDataRead {
+            cursor: codec::moved_by(c, n),
+            answer: MacDataAnswer::Read(h),
+        },
+        MacDataPart::Refused(r) => MacDataRead {
+            cursor: c,
+            answer: MacDataAnswer::Refused(r),
+        },
+    }
+}
+
+// Why an option is not written, or 0.
+fn option_refusal(option: MacDataOption) -> u8
+    ensures { λ r. ⌜ r ≡ optionRefusal option ⌝ }
+{
+    match option {
+        MacDataOption::LengthInd(n) => {
+            if 63 < n {
+                return refusal::VALUE_TOO_WIDE;
+            }
+            0
+        }
+        MacDataOption::CapacityRequest(_, _) => 0,
+    }
+}
+
+// Why a MAC-DATA is not written, or 0.
+pub fn mac_data_refusal(h: MacData) -> u8
+    ensures { λ r. ⌜ r ≡ macDataRefusal h ⌝ }
+{
+    let addr = h.addr;
+    let option = h.option;
+    uplink_head::uplink_refusal(h.encrypted, addr, option_refusal(option))
+}
+
+// The bits of a MAC-DATA.
+pub fn mac_data_size(h: MacData) -> usize
+    ensures { λ r. ⌜ (r ≡ macDataSize h) × (r ≤ 64) ⌝ }
+{
+    let addr = h.addr;
+    uplink_head::uplink_size(2, addr) + 7
+}
+
+// The 7 bits of an option as one number.
+fn option_word(option: MacDataOption) -> u64
+    requires { ⌜ optionRefusal option ≡ 0 ⌝ }
+    ensures { λ r. ⌜ RowIs (optionRow option) 7 r ⌝ }
+{
+    match option {
+        MacDataOption::LengthInd(n) => 0 * 64 + n as u64,
+        MacDataOption::CapacityRequest(frag_flag, reservation_req) => {
+            let frag = codec::bit(frag_flag);
+            let req = reservation_requirement::into_raw(reservation_req);
+            1 * 64 + (frag * 32 + (req * 2 + 0))
+        }
+    }
+}
+
+// A MAC-DATA as one number.
+fn mac_data_word(h: MacData) -> u64
+    requires { ⌜ macDataRefusal h ≡ 0 ⌝ }
+    ensures { λ r. ⌜ RowIs (macDataRow h) (macDataSize h) r ⌝ }
+{
+    let addr = h.addr;
+    let option = h.option;
+    let head = uplink_head::uplink_word(UplinkHead {
+        fill_bits: h.fill_bits,
+        encrypted: h.encrypted,
+        addr,
+    });
+    head * 128 + option_word(option)
+}
+
+// Writes a MAC-DATA at the cursor.
+pub fn to_bitbuf(s: &mut [u8], c: Cursor, h: MacData) -> Moved
+    ensures { λ r. ⌜ (r ≡ macDataWrite (now (s .entry)) c h) × (now (s .exit) ≡ macDataWritten (now (s .entry)) c h) ⌝ }
+{
+    let value = mac_data_refusal(h);
+    let n = mac_data_size(h);
+    let number = codec::write_refusal(s.len(), c, value, n);
+    if number != 0 {
+        return Moved {
+            cursor: c,
+            answer: Outcome::Refused(number),
+        };
+    }
+    let pos = c.pos;
+    let x = mac_data_word(h);
+    word::put_bits(s, pos, n, x);
+    Moved {
+        cursor: codec::moved_by(c, n),
+        answer: Outcome::Done,
+    }
+}
