@@ -1,0 +1,36 @@
+-- Pieces of a header: a row as a piece, and two pieces joined.
+use Prim.Native.Nat.{ℕ, _+_, _*_, _%_, _^_, _≤_, _<_}
+use mathlib.Core.Path.{_≡_, refl}
+use mathlib.Core.List.{List, _++_}
+use mathlib.Core.Bool.{Bool}
+use native.Mathlib.Nat.{lt-of-lt-of-le}
+use native.Mathlib.Omega.{arith}
+use lib.Arith.{digits-lt}
+use lib.Pow.{pow-add, pow-mono, shl-exact}
+use mir.Syntax.{w64}
+use mir.Val.{Fits}
+use Rattle.codec.specs.Row.{Cell, rowBits, RowIs, join-bits}
+use Rattle.mac_resource.specs.Piece.{pieceBits, Holds}
+use Rattle.mac_resource.specs.declared.piece.Piece.{Piece}
+
+-- a number that stands for a row
+pub row-holds : {r : List Cell} {n x : ℕ} → RowIs r n x → Holds (rowBits r) n (record { value = x; bits = n })
+row-holds e = record { is = e .bits; size = refl; small = e .small }
+
+module _ (a b : Piece) (h : (a .value < 2 ^ a .bits) × (b .value < 2 ^ b .bits) × (a .bits + b .bits ≤ 63)) where
+  below : a .value * 2 ^ b .bits + b .value < 2 ^ (a .bits + b .bits)
+  below = rw (pow-add 2 (a .bits) (b .bits)) (digits-lt (h .0) (h .1))
+
+  shifted : a .value * 2 ^ b .bits % 2 ^ 64 ≡ a .value * 2 ^ b .bits
+  shifted = shl-exact (a .bits) (b .bits) 64 (h .0) (omega arith)
+
+  pub joined-fits : Fits w64 (a .value * 2 ^ b .bits % 2 ^ 64 + b .value)
+  joined-fits = record { fits = rw shifted (lt-of-lt-of-le below (pow-mono {j = 64} (omega arith))) }
+
+  pub joined-holds : Holds (pieceBits a ++ pieceBits b) (a .bits + b .bits) (record { value = a .value * 2 ^ b .bits % 2 ^ 64 + b .value; bits = a .bits + b .bits })
+  joined-holds = record { is = rw shifted (join-bits (a .bits) (b .bits) (a .value) (b .value) (h .1)); size = refl; small = rw shifted below }
+
+-- two pieces that were joined
+pub join-holds : {xs ys : List Bool} {n m : ℕ} {p q r : Piece} → Holds xs n p → Holds ys m q → Holds (pieceBits p ++ pieceBits q) (p .bits + q .bits) r
+    → Holds (xs ++ ys) (n + m) r
+join-holds a b c = rw (a .is, b .is, a .size, b .size) at c

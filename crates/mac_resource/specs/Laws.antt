@@ -1,0 +1,2 @@
+-- The laws of MAC-RESOURCE that other crates cite.
+pub mod MacResource
