@@ -1,2 +1,3 @@
 -- The laws of the fields that other crates cite.
 pub mod BasicSlotgrant
+pub mod ChannelAllocation

@@ -1,2 +1,3 @@
 pub mod BasicSlotgrant
+pub mod ChannelAllocation
 pub mod Laws

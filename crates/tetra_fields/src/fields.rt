@@ -1,2 +1,3 @@
 // Elements of several fields.
 pub mod basic_slotgrant;
+pub mod channel_allocation;

@@ -1,0 +1,191 @@
+-- A channel allocation that nothing refuses fits its bits, is as long as its length says, and what was written is read back in its normal
+-- form.
+use Prim.Native.Nat.{ℕ, zero, suc, _+_, _*_, _≤_, _<_}
+use mathlib.Core.Path.{_≡_, refl}
+use mathlib.Core.List.{List, [], _∷_, _++_, append-assoc, append-nil}
+use mathlib.Core.Bool.{Bool, true, false, cond}
+use native.Mathlib.Omega.{arith}
+use native.Mathlib.Nat.{add-assoc, zero-add}
+use lib.ListN.{length, length-append}
+use lib.Dec.{eqb, ltb, lit<}
+use borrow.Author.Tests.{ltb-true, eqb-true, eq-eqb, ne-eqb}
+use Rattle.tetra_core.specs.Bits.{digit}
+use Rattle.tetra_core.specs.BitBuffer.{moved}
+use Rattle.tetra_core.specs.Refusal.{unless, first-none, passed}
+use Rattle.tetra_core.specs.Laws.Values.{digit-lt}
+use Rattle.tetra_core.specs.declared.bitbuffer.Cursor.{Cursor}
+use Rattle.codec.specs.Reader.{got, run}
+use Rattle.codec.specs.Feed.{field-alone}
+use Rattle.codec.specs.Row.{cell, rowBits, RowFits, length-row}
+use Rattle.codec.specs.Write.{refusalAt, free}
+use Rattle.codec.specs.Back.{give, gives, written-back}
+use Rattle.codec.specs.Cases.{flag-back}
+use Rattle.tetra_fields.specs.ChannelAllocation.{allocTypeNumber, allocTypeOf, ulDlNumber, ulDlOf, ulDlRefusal, timeslotsNumber, timeslotsOf, frame18Number, readMonPatterns, readChannelAllocation, channelAllocationAt, patternRefusal, frame18Refusal, lenRefusal, channelAllocationRefusal, channelAllocationRow, frame18Row, channelAllocationBits, channelAllocationLen, lenOr, computeLen, channelAllocationWritten, normalChannelAllocation}
+use Rattle.tetra_fields.specs.declared.enums.alloc_type.ChanAllocType.{ChanAllocType}
+use Rattle.tetra_fields.specs.declared.enums.alloc_type.ChanAllocType.the-variants.{Replace, Additional, QuitAndGo, ReplaceWithCarrierSignalling}
+use Rattle.tetra_fields.specs.declared.enums.ul_dl_assignment.UlDlAssignment.{UlDlAssignment}
+use Rattle.tetra_fields.specs.declared.enums.ul_dl_assignment.UlDlAssignment.the-variants.{Augmented, Dl, Ul, Both}
+use Rattle.tetra_fields.specs.declared.fields.channel_allocation.TimeslotsAssigned.{TimeslotsAssigned}
+use Rattle.tetra_fields.specs.declared.fields.channel_allocation.Frame18Pattern.{Frame18Pattern}
+use Rattle.tetra_fields.specs.declared.fields.channel_allocation.Frame18Pattern.the-variants.{Without, Pattern}
+use Rattle.tetra_fields.specs.declared.fields.channel_allocation.ChanAllocElement.{ChanAllocElement}
+use Rattle.tetra_fields.specs.declared.fields.channel_allocation.ChannelAllocationAnswer.{ChannelAllocationAnswer}
+use Rattle.tetra_fields.specs.declared.fields.channel_allocation.ChanAllocLen.{ChanAllocLen}
+
+-- the number of a case has 2 bits and gives the case
+pub alloc-type-back : (a : ChanAllocType) → (allocTypeNumber a < 4) × (allocTypeOf (allocTypeNumber a) ≡ a)
+unfolding allocTypeOf
+alloc-type-back Replace = (lit< tt, refl)
+alloc-type-back Additional = (lit< tt, refl)
+alloc-type-back QuitAndGo = (lit< tt, refl)
+alloc-type-back ReplaceWithCarrierSignalling = (lit< tt, refl)
+
+pub ul-dl-back : (a : UlDlAssignment) → (ulDlNumber a < 4) × (ulDlOf (ulDlNumber a) ≡ a)
+unfolding ulDlOf
+ul-dl-back Augmented = (lit< tt, refl)
+ul-dl-back Dl = (lit< tt, refl)
+ul-dl-back Ul = (lit< tt, refl)
+ul-dl-back Both = (lit< tt, refl)
+
+-- a direction that is not refused is not 0
+pub ul-dl-told : (a : UlDlAssignment) → ulDlRefusal a ≡ 0 → ulDlNumber a ≡ 0 → ⊥
+ul-dl-told Augmented e z = omega arith
+ul-dl-told Dl e z = omega arith
+ul-dl-told Ul e z = omega arith
+ul-dl-told Both e z = omega arith
+
+-- timeslots have 4 bits, and their number gives them
+pub timeslots-lt : (t : TimeslotsAssigned) → timeslotsNumber t < 16
+timeslots-lt t = omega (arith, digit-lt (t .ts1), digit-lt (t .ts2), digit-lt (t .ts3), digit-lt (t .ts4))
+
+slots : (a b c d : Bool) → timeslotsOf (digit a * 8 + digit b * 4 + digit c * 2 + digit d) ≡ record { ts1 = a; ts2 = b; ts3 = c; ts4 = d }
+slots true true true true = refl
+slots true true true false = refl
+slots true true false true = refl
+slots true true false false = refl
+slots true false true true = refl
+slots true false true false = refl
+slots true false false true = refl
+slots true false false false = refl
+slots false true true true = refl
+slots false true true false = refl
+slots false true false true = refl
+slots false true false false = refl
+slots false false true true = refl
+slots false false true false = refl
+slots false false false true = refl
+slots false false false false = refl
+
+pub timeslots-back : (t : TimeslotsAssigned) → timeslotsOf (timeslotsNumber t) ≡ t
+timeslots-back t = slots (t .ts1) (t .ts2) (t .ts3) (t .ts4)
+
+-- a frame-18 pattern that is not refused has 2 bits, and its number gives it
+pub pattern-back : (p : Frame18Pattern) → patternRefusal p ≡ 0 → (frame18Number p < 4) × (Pattern (frame18Number p) ≡ p)
+pattern-back Without e = absurd (omega arith)
+pattern-back (Pattern v) e = (ltb-true v 4 (passed _ 2 e), refl)
+
+-- ---- the length
+
+pub channel-allocation-length : (e : ChanAllocElement) → length (channelAllocationBits e) ≡ channelAllocationLen e
+unfolding channelAllocationBits channelAllocationRow frame18Row channelAllocationLen
+channel-allocation-length e = go (eqb (e .«mon_pattern») 0)
+  where
+    go : (b : Bool) → length (rowBits (channelAllocationRow e) ++ rowBits (cond b (cell 2 (frame18Number (e .«frame18_mon_pattern»)) ∷ []) [])) ≡ cond b 27 25
+    go true = rw (length-append, length-row (channelAllocationRow e), length-row (cell 2 (frame18Number (e .«frame18_mon_pattern»)) ∷ []))
+    go false = rw (length-append, length-row (channelAllocationRow e), length-row [])
+
+pub channel-allocation-len : (e : ChanAllocElement) → (25 ≤ channelAllocationLen e) × (channelAllocationLen e ≤ 27)
+unfolding channelAllocationLen
+channel-allocation-len e = go (eqb (e .«mon_pattern») 0)
+  where
+    go : (b : Bool) → (25 ≤ cond b 27 25) × (cond b 27 25 ≤ 27)
+    go true = (omega arith, omega arith)
+    go false = (omega arith, omega arith)
+
+-- a length that is refused, by r as the code has it
+pub len-refused : (r j n : ℕ) → r ≡ j → (r ≡ 0 → ⊥) → ChanAllocLen.Refused r ≡ lenOr j n
+len-refused r zero n e h = absurd (h e)
+len-refused r (suc j) n e h = rw e
+
+-- ---- an element that nothing refuses
+
+module _ (e : ChanAllocElement) (h : channelAllocationRefusal e ≡ 0) where
+  -- what each check told
+  pub channel-allocation-told : (e .«carrier_num» < 4096) × (e .«mon_pattern» < 4) × (frame18Refusal (e .«mon_pattern») (e .«frame18_mon_pattern») ≡ 0) × (lenRefusal e ≡ 0)
+  unfolding channelAllocationRefusal
+  channel-allocation-told =
+      let a = first-none (unless (ltb (e .«carrier_num») 4096) 3) _ h in
+      let b = first-none (unless (ltb (e .«mon_pattern») 4) 3) _ (a .1) in
+      let c = first-none (frame18Refusal (e .«mon_pattern») (e .«frame18_mon_pattern»)) _ (b .1) in
+      (ltb-true _ _ (passed _ 2 (a .0)), ltb-true _ _ (passed _ 2 (b .0)), c .0, first-none (lenRefusal e) _ (c .1) .0)
+
+  -- where it is written
+  pub frame18-fits : e .«mon_pattern» ≡ 0 → (frame18Number (e .«frame18_mon_pattern») < 4) × (Pattern (frame18Number (e .«frame18_mon_pattern»)) ≡ e .«frame18_mon_pattern»)
+  unfolding frame18Refusal
+  frame18-fits z = pattern-back (e .«frame18_mon_pattern») (rw (eq-eqb _ _ z) at (channel-allocation-told .2))
+
+  pub channel-allocation-fits : RowFits (channelAllocationRow e)
+  unfolding channelAllocationRow
+  channel-allocation-fits = (
+    alloc-type-back (e .«alloc_type») .0,
+    (
+      timeslots-lt (e .«ts_assigned»),
+      (
+        ul-dl-back (e .«ul_dl_assigned») .0,
+        (digit-lt (e .«clch_permission»), (digit-lt (e .«cell_change_flag»), (channel-allocation-told .0, (lit< tt, (channel-allocation-told .1, tt))))),
+      ),
+    ),
+  )
+
+  -- "every accepted write has that length"
+  pub channel-allocation-counted : computeLen e ≡ ChanAllocLen.Len (record { 0 = length (channelAllocationBits e) })
+  unfolding computeLen
+  channel-allocation-counted = rw (channel-allocation-told .3, channel-allocation-length e)
+
+  -- whatever follows its bits
+  pub channel-allocation-back : (rest : List Bool) (o : ℕ)
+      → run readChannelAllocation (channelAllocationBits e ++ rest) o ≡ got (normalChannelAllocation e) rest (o + channelAllocationLen e)
+  unfolding readChannelAllocation readMonPatterns channelAllocationRow frame18Row channelAllocationBits channelAllocationLen lenRefusal rowBits
+  channel-allocation-back rest o =
+      rw (
+        append-assoc (rowBits (channelAllocationRow e)) (rowBits (frame18Row e)) rest,
+        gives readChannelAllocation (channelAllocationRow e) 0 (rowBits (frame18Row e) ++ rest) o channel-allocation-fits,
+      )
+      (tail (eqb (e .«mon_pattern») 0) refl)
+    where
+      tail : (b : Bool) → eqb (e .«mon_pattern») 0 ≡ b
+          → give readChannelAllocation (channelAllocationRow e) 0 (rowBits (frame18Row e) ++ rest) o ≡ got (normalChannelAllocation e) rest (o + channelAllocationLen e)
+      tail true p =
+          let f = frame18-fits (eqb-true _ _ p) in
+          rw (
+            p,
+            append-nil,
+            field-alone 2 (frame18Number (e .«frame18_mon_pattern»)) rest (o + 25) (f .0),
+            f .1,
+            ne-eqb _ _ (ul-dl-told (e .«ul_dl_assigned») (channel-allocation-told .3)),
+            alloc-type-back (e .«alloc_type») .1,
+            timeslots-back (e .«ts_assigned»),
+            ul-dl-back (e .«ul_dl_assigned») .1,
+            flag-back (e .«clch_permission»),
+            flag-back (e .«cell_change_flag»),
+            add-assoc,
+          )
+      tail false p =
+          rw (
+            p,
+            ne-eqb _ _ (ul-dl-told (e .«ul_dl_assigned») (channel-allocation-told .3)),
+            alloc-type-back (e .«alloc_type») .1,
+            timeslots-back (e .«ts_assigned»),
+            ul-dl-back (e .«ul_dl_assigned») .1,
+            flag-back (e .«clch_permission»),
+            flag-back (e .«cell_change_flag»),
+          )
+
+-- in bytes: what to_bitbuf wrote, from_bitbuf reads at the same cursor
+pub channel-allocation-written-back : (s : List ℕ) (c : Cursor) (e : ChanAllocElement) → refusalAt (length s) c (channelAllocationRefusal e) (channelAllocationLen e) ≡ 0
+    → channelAllocationAt (channelAllocationWritten s c e) c
+    ≡ record { cursor = moved c (channelAllocationLen e); answer = ChannelAllocationAnswer.Read (normalChannelAllocation e) }
+unfolding channelAllocationAt
+channel-allocation-written-back s c e h =
+    written-back readChannelAllocation _ _ _ s c (channelAllocationRefusal e) (channelAllocationBits e) (channel-allocation-length e)
+    (λ rest. rw zero-add at (channel-allocation-back e (free _ _ _ _ h .value) rest 0)) h

@@ -1,0 +1,353 @@
+// Clause 21.5.2, channel allocation: 25 bits, or 27 with monitoring pattern 0. An extended carrier and the augmented direction are refused.
+use crate::enums::alloc_type;
+use crate::enums::alloc_type::ChanAllocType;
+use crate::enums::ul_dl_assignment;
+use crate::enums::ul_dl_assignment::UlDlAssignment;
+use tetra_core::bitbuffer;
+use tetra_core::bitbuffer::Cursor;
+use tetra_core::bitbuffer::Moved;
+use tetra_core::bitbuffer::Outcome;
+use tetra_core::quantity::Bits;
+use tetra_core::refusal;
+use tetra_core::refusal::Refusal;
+use tetra_core::word;
+ghost use mathlib.Core.Path.{_≡_};
+ghost use Prim.Native.Nat.{_+_, _*_, _^_, _≤_, _<_};
+ghost use lib.ListN.{length};
+ghost use Rattle.tetra_core.specs.Bits.{bitsOfNat, putBits};
+ghost use Rattle.tetra_core.specs.Laws.Windows.{Good};
+ghost use Rattle.codec.specs.Header.{within, Reads};
+ghost use Rattle.codec.specs.Row.{RowIs};
+ghost use Rattle.tetra_fields.specs.ChannelAllocation.{timeslotsOf, timeslotsNumber, frame18Number, readMonPatterns, monPatternsOut, readChannelAllocation, channelAllocationOut, channelAllocationAt, frame18Refusal, lenRefusal, channelAllocationRefusal, channelAllocationRow, channelAllocationBits, channelAllocationLen, computeLen, channelAllocationWrite, channelAllocationWritten};
+
+// The timeslots assigned, slot 1 first.
+pub struct TimeslotsAssigned {
+    pub ts1: bool,
+    pub ts2: bool,
+    pub ts3: bool,
+    pub ts4: bool,
+}
+
+// The frame-18 pattern, which stands only beside monitoring pattern 0.
+pub enum Frame18Pattern {
+    Without,
+    Pattern(u8),
+}
+
+pub struct ChanAllocElement {
+    // 2
+    pub alloc_type: ChanAllocType,
+    // 4
+    pub ts_assigned: TimeslotsAssigned,
+    // 2
+    pub ul_dl_assigned: UlDlAssignment,
+    // 1
+    pub clch_permission: bool,
+    // 1
+    pub cell_change_flag: bool,
+    // 12
+    pub carrier_num: u16,
+    // 2, after the extension flag
+    pub mon_pattern: u8,
+    // 2 where mon_pattern is 0
+    pub frame18_mon_pattern: Frame18Pattern,
+}
+
+// A channel allocation, or why there is none.
+pub enum ChannelAllocationAnswer {
+    Read(ChanAllocElement),
+    Refused(Refusal),
+}
+
+// What a read answers, and the cursor after it.
+pub struct ChannelAllocationRead {
+    pub cursor: Cursor,
+    pub answer: ChannelAllocationAnswer,
+}
+
+// A channel allocation as a part of a header, and the offset after it.
+pub enum ChannelAllocationPart {
+    Read(ChanAllocElement, usize),
+    Refused(Refusal),
+}
+
+// The monitoring patterns as a part of a channel allocation.
+struct MonPatterns {
+    pub mon_pattern: u8,
+    pub frame18_mon_pattern: Frame18Pattern,
+}
+
+enum MonPatternsPart {
+    Read(MonPatterns, usize),
+    Refused(Refusal),
+}
+
+// The bits that a channel allocation takes up, or the number of the refusal.
+pub enum ChanAllocLen {
+    Len(Bits),
+    Refused(u8),
+}
+
+// The timeslots of a number of 4 bits.
+fn timeslots_from_raw(v: u64) -> TimeslotsAssigned
+    ensures { λ r. ⌜ r ≡ timeslotsOf v ⌝ }
+{
+    TimeslotsAssigned {
+        ts1: (v >> 3) % 2 != 0,
+        ts2: (v >> 2) % 2 != 0,
+        ts3: (v >> 1) % 2 != 0,
+        ts4: v % 2 != 0,
+    }
+}
+
+fn timeslots_into_raw(t: TimeslotsAssigned) -> u64
+    ensures { λ r. ⌜ (r ≡ timeslotsNumber t) × (r < 16) ⌝ }
+{
+    codec::bit(t.ts1) * 8 + codec::bit(t.ts2) * 4 + codec::bit(t.ts3) * 2 + codec::bit(t.ts4)
+}
+
+fn frame18_into_raw(p: Frame18Pattern) -> u64
+    ensures { λ r. ⌜ (r ≡ frame18Number p) × (r < 256) ⌝ }
+{
+    match p {
+        Frame18Pattern::Without => 0,
+        Frame18Pattern::Pattern(v) => v as u64,
+    }
+}
+
+// The monitoring pattern at the offset o of a header, and the frame-18 pattern where it is 0.
+fn read_mon_patterns(s: &[u8], c: Cursor, o: usize) -> MonPatternsPart
+    requires { ⌜ Good (length (now s)) c ⌝ }
+    ensures { λ r. ⌜ Reads monPatternsOut readMonPatterns (within (now (s .entry)) c) o r ⌝ }
+{
+    let left = codec::left(s, c, o);
+    if left < 2 {
+        return MonPatternsPart::Refused(Refusal {
+            number: refusal::READ_PAST_END,
+            bit: o,
+        });
+    }
+    let pattern = codec::word(s, c, o, 2);
+    let o1 = o + 2;
+    if pattern != 0 {
+        return MonPatternsPart::Read(
+            MonPatterns {
+                mon_pattern: pattern as u8,
+                frame18_mon_pattern: Frame18Pattern::Without,
+            },
+            o1,
+        );
+    }
+    if left < 4 {
+        return MonPatternsPart::Refused(Refusal {
+            number: refusal::READ_PAST_END,
+            bit: o1,
+        });
+    }
+    let v = codec::word(s, c, o1, 2);
+    MonPatternsPart::Read(
+        MonPatterns {
+            mon_pattern: pattern as u8,
+            frame18_mon_pattern: Frame18Pattern::Pattern(v as u8),
+        },
+        o1 + 2,
+    )
+}
+
+// The channel allocation at the offset o of a header.
+pub fn read_channel_allocation(s: &[u8], c: Cursor, o: usize) -> ChannelAllocationPart
+    requires { ⌜ Good (length (now s)) c ⌝ }
+    ensures { λ r. ⌜ Reads channelAllocationOut readChannelAllocation (within (now (s .entry)) c) o r ⌝ }
+{
+    let left = codec::left(s, c, o);
+    if left < 23 {
+        let widths = [2u8, 4, 2, 1, 1, 12, 1];
+        return ChannelAllocationPart::Refused(codec::short(&widths, left, o));
+    }
+    let x = codec::word(s, c, o, 23);
+    if x % 2 != 0 {
+        return ChannelAllocationPart::Refused(Refusal {
+            number: refusal::EXTENDED_CARRIER,
+            bit: o + 22,
+        });
+    }
+    match read_mon_patterns(s, c, o + 23) {
+        MonPatternsPart::Refused(r) => ChannelAllocationPart::Refused(r),
+        MonPatternsPart::Read(p, n) => {
+            if (x >> 15) % 4 == 0 {
+                return ChannelAllocationPart::Refused(Refusal {
+                    number: refusal::AUGMENTED,
+                    bit: o + 6,
+                });
+            }
+            let frame18_mon_pattern = p.frame18_mon_pattern;
+            ChannelAllocationPart::Read(
+                ChanAllocElement {
+                    alloc_type: alloc_type::from_raw((x >> 21) % 4),
+                    ts_assigned: timeslots_from_raw((x >> 17) % 16),
+                    ul_dl_assigned: ul_dl_assignment::from_raw((x >> 15) % 4),
+                    clch_permission: (x >> 14) % 2 != 0,
+                    cell_change_flag: (x >> 13) % 2 != 0,
+                    carrier_num: ((x >> 1) % 4096) as u16,
+                    mon_pattern: p.mon_pattern,
+                    frame18_mon_pattern,
+                },
+                n,
+            )
+        }
+    }
+}
+
+// Reads a channel allocation at the cursor.
+pub fn from_bitbuf(s: &[u8], c: Cursor) -> ChannelAllocationRead
+    ensures { λ r. ⌜ r ≡ channelAllocationAt (now (s .entry)) c ⌝ }
+{
+    if !bitbuffer::good_window(s.len(), c) {
+        return ChannelAllocationRead {
+            cursor: c,
+            answer: ChannelAllocationAnswer::Refused(Refusal {
+                number: refusal::BAD_WINDOW,
+                bit: 0,
+            }),
+        };
+    }
+    match read_channel_allocation(s, c, 0) {
+        ChannelAllocationPart::Read(e, n) => ChannelAllocationRead {
+            cursor: codec::moved_by(c, n),
+            answer: ChannelAllocationAnswer::Read(e),
+        },
+        ChannelAllocationPart::Refused(r) => ChannelAllocationRead {
+            cursor: c,
+            answer: ChannelAllocationAnswer::Refused(r),
+        },
+    }
+}
+
+// Why a frame-18 pattern is not written beside a monitoring pattern, or 0.
+fn frame18_refusal(mon_pattern: u8, p: Frame18Pattern) -> u8
+    ensures { λ r. ⌜ r ≡ frame18Refusal «mon_pattern» p ⌝ }
+{
+    if mon_pattern != 0 {
+        return 0;
+    }
+    match p {
+        Frame18Pattern::Without => refusal::NO_FRAME_18_PATTERN,
+        Frame18Pattern::Pattern(v) => {
+            if 3 < v {
+                return refusal::VALUE_TOO_WIDE;
+            }
+            0
+        }
+    }
+}
+
+// Why the length of a channel allocation is not counted, or 0.
+pub fn len_refusal(e: ChanAllocElement) -> u8
+    ensures { λ r. ⌜ r ≡ lenRefusal e ⌝ }
+{
+    let direction = e.ul_dl_assigned;
+    match direction {
+        UlDlAssignment::Augmented => refusal::AUGMENTED,
+        UlDlAssignment::Dl => 0,
+        UlDlAssignment::Ul => 0,
+        UlDlAssignment::Both => 0,
+    }
+}
+
+// Why a channel allocation is not written, or 0.
+pub fn channel_allocation_refusal(e: ChanAllocElement) -> u8
+    ensures { λ r. ⌜ r ≡ channelAllocationRefusal e ⌝ }
+{
+    if 4095 < e.carrier_num {
+        return refusal::VALUE_TOO_WIDE;
+    }
+    if 3 < e.mon_pattern {
+        return refusal::VALUE_TOO_WIDE;
+    }
+    let p = e.frame18_mon_pattern;
+    let number = frame18_refusal(e.mon_pattern, p);
+    if number != 0 {
+        return number;
+    }
+    len_refusal(e)
+}
+
+// The bits that a channel allocation takes up, in the augmented direction too.
+pub fn allocation_len(e: ChanAllocElement) -> usize
+    ensures { λ r. ⌜ (r ≡ channelAllocationLen e) × (r ≤ 27) ⌝ }
+{
+    if e.mon_pattern == 0 { 27 } else { 25 }
+}
+
+// The bits that a channel allocation is written as.
+pub fn compute_len(e: ChanAllocElement) -> ChanAllocLen
+    ensures { λ r. ⌜ r ≡ computeLen e ⌝ }
+{
+    let number = len_refusal(e);
+    if number != 0 {
+        return ChanAllocLen::Refused(number);
+    }
+    ChanAllocLen::Len(Bits(allocation_len(e) as u16))
+}
+
+// The first 25 bits of a channel allocation as one number.
+fn fixed_word(e: ChanAllocElement) -> u64
+    requires { ⌜ channelAllocationRefusal e ≡ 0 ⌝ }
+    ensures { λ r. ⌜ RowIs (channelAllocationRow e) 25 r ⌝ }
+{
+    let alloc_type = e.alloc_type;
+    let ts_assigned = e.ts_assigned;
+    let ul_dl_assigned = e.ul_dl_assigned;
+    let a = alloc_type::into_raw(alloc_type);
+    let t = timeslots_into_raw(ts_assigned);
+    let d = ul_dl_assignment::into_raw(ul_dl_assigned);
+    let c = codec::bit(e.clch_permission);
+    let f = codec::bit(e.cell_change_flag);
+    let n = e.carrier_num as u64;
+    let m = e.mon_pattern as u64;
+    a * 8388608 + (t * 524288 + (d * 131072 + (c * 65536 + (f * 32768 + (n * 8 + (0 * 4 + m))))))
+}
+
+// The 25 or 27 bits of a channel allocation as one number.
+pub fn channel_allocation_word(e: ChanAllocElement) -> u64
+    requires { ⌜ channelAllocationRefusal e ≡ 0 ⌝ }
+    ensures { λ r. ⌜ (bitsOfNat (channelAllocationLen e) r ≡ channelAllocationBits e) × (r < 2 ^ channelAllocationLen e) ⌝ }
+{
+    let x = fixed_word(e);
+    if e.mon_pattern == 0 {
+        let p = e.frame18_mon_pattern;
+        return x * 4 + frame18_into_raw(p);
+    }
+    x
+}
+
+// Puts a channel allocation into s from pos on.
+pub fn put_channel_allocation(s: &mut [u8], pos: usize, e: ChanAllocElement)
+    requires { ⌜ (pos + channelAllocationLen e ≤ 8 * length (now s)) × (pos ≤ 65536) × (channelAllocationRefusal e ≡ 0) ⌝ }
+    ensures { λ r. ⌜ now (s .exit) ≡ putBits (now (s .entry)) pos (channelAllocationBits e) ⌝ }
+{
+    let x = channel_allocation_word(e);
+    let size = allocation_len(e);
+    word::put_bits(s, pos, size, x);
+}
+
+// Writes a channel allocation at the cursor.
+pub fn to_bitbuf(s: &mut [u8], c: Cursor, e: ChanAllocElement) -> Moved
+    ensures { λ r. ⌜ (r ≡ channelAllocationWrite (now (s .entry)) c e) × (now (s .exit) ≡ channelAllocationWritten (now (s .entry)) c e) ⌝ }
+{
+    let value = channel_allocation_refusal(e);
+    let size = allocation_len(e);
+    let number = codec::write_refusal(s.len(), c, value, size);
+    if number != 0 {
+        return Moved {
+            cursor: c,
+            answer: Outcome::Refused(number),
+        };
+    }
+    let pos = c.pos;
+    put_channel_allocation(s, pos, e);
+    Moved {
+        cursor: codec::moved_by(c, size),
+        answer: Outcome::Done,
+    }
+}
