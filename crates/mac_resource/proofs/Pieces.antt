@@ -1,21 +1,29 @@
 -- Pieces of a header: a row as a piece, and two pieces joined.
 use Prim.Native.Nat.{ℕ, _+_, _*_, _%_, _^_, _≤_, _<_}
 use mathlib.Core.Path.{_≡_, refl}
-use mathlib.Core.List.{List, _++_}
+use mathlib.Core.List.{List, _∷_, _++_}
 use mathlib.Core.Bool.{Bool}
 use native.Mathlib.Nat.{lt-of-lt-of-le}
 use native.Mathlib.Omega.{arith}
 use lib.Arith.{digits-lt}
+use lib.Dec.{lit<}
 use lib.Pow.{pow-add, pow-mono, shl-exact}
 use mir.Syntax.{w64}
 use mir.Val.{Fits}
-use Rattle.codec.specs.Row.{Cell, rowBits, RowIs, join-bits}
+use Rattle.codec.specs.Row.{Cell, cell, rowBits, RowIs, join-bits}
 use Rattle.mac_resource.specs.Piece.{pieceBits, Holds}
 use Rattle.mac_resource.specs.declared.piece.Piece.{Piece}
 
 -- a number that stands for a row
 pub row-holds : {r : List Cell} {n x : ℕ} → RowIs r n x → Holds (rowBits r) n (record { value = x; bits = n })
 row-holds e = record { is = e .bits; size = refl; small = e .small }
+
+-- a flag that is set, and the row behind it
+pub flagged-holds : {r : List Cell} {n x : ℕ} → RowIs r n x → Holds (rowBits (cell 1 1 ∷ r)) (1 + n) (record { value = 1 * 2 ^ n + x; bits = 1 + n })
+unfolding rowBits
+flagged-holds {n = n} {x} e =
+    let b = join-bits 1 n 1 x (e .small) in
+    record { is = rw (e .bits) at b; size = refl; small = rw (pow-add 2 1 n) (digits-lt {q = 1} {m = 2} (lit< tt) (e .small)) }
 
 module _ (a b : Piece) (h : (a .value < 2 ^ a .bits) × (b .value < 2 ^ b .bits) × (a .bits + b .bits ≤ 63)) where
   below : a .value * 2 ^ b .bits + b .value < 2 ^ (a .bits + b .bits)

@@ -6,21 +6,24 @@ use mathlib.Core.Bool.{Bool, true, false, cond}
 use native.Mathlib.Omega.{arith}
 use native.Mathlib.Nat.{add-zero}
 use lib.ListN.{length, drop}
-use lib.Dec.{ltb, lit<}
-use borrow.Author.Tests.{ltb-true, ltb-false}
+use lib.Dec.{ltb, lit<, lit≤}
+use borrow.Author.Tests.{ltb-true, ltb-false, eq-eqb, ne-eqb}
 use Rattle.tetra_core.specs.Refusal.{first, first-none, passed}
 use Rattle.tetra_core.specs.declared.address.TetraAddress.{TetraAddress}
 use Rattle.tetra_core.specs.declared.address.TetraAddress.the-variants as Address'
 use Rattle.tetra_core.specs.declared.bitbuffer.Cursor.{Cursor}
-use Rattle.codec.specs.Reader.{got, refused, run}
+use Rattle.codec.specs.Reader.{got, refused, Reader, run}
 use Rattle.codec.specs.Feed.{shortAt, short-stop, short-more}
-use Rattle.codec.specs.Header.{within, Word, Left, fed, starved}
+use Rattle.codec.specs.Header.{within, Word, Left, fed, alone, starved, starved-alone}
 use Rattle.codec.specs.Row.{rowBits, size, RowFits}
-use Rattle.mac_resource.specs.MacResource.{addrTypeNumber, addrTypeOf, typeOf, isNull, readFixed, readBehindType, FixedFits, fixedRow, readAddress, one, two, addressLen, addressOf, wide, addressRefusal, addressRow}
+use Rattle.mac_resource.specs.MacResource.{addrTypeNumber, addrTypeOf, typeOf, isNull, readFixed, readBehindType, FixedFits, fixedRow, readAddress, one, two, optional, powerRefusal, grantingRefusal, allocationRefusal, elementsRefusal, powerLen, grantingLen, addressLen, addressOf, wide, addressRefusal, addressRow}
 use Rattle.codec.specs.Back.{gives}
 use Rattle.codec.specs.Cases.{flag-back}
 use Rattle.tetra_core.specs.Laws.Values.{digit-lt}
 use Rattle.mac_resource.specs.declared.fixed.Fixed.{Fixed}
+use Rattle.mac_resource.specs.declared.elements.PowerControl.{PowerControl}
+use Rattle.mac_resource.specs.declared.elements.Elements.{Elements}
+use Rattle.mac_resource.specs.declared.elements.SlotGranting.{SlotGranting}
 use Rattle.mac_resource.specs.declared.enums.mac_resource_addr_type.MacResourceAddrType.{MacResourceAddrType}
 use Rattle.mac_resource.specs.declared.enums.mac_resource_addr_type.MacResourceAddrType.the-variants.{NullPdu, Ssi, EventLabel, Ussi, Smi, SsiAndEventLabel, SsiAndUsageMarker, SmiAndEventLabel}
 
@@ -140,3 +143,36 @@ address-starved Smi {n = n} e l = rw (← short-one 24 n l (omega arith)) (starv
 address-starved SsiAndEventLabel e l = starved (readAddress SsiAndEventLabel) (24 ∷ 10 ∷ []) (λ _ _. tt) e l
 address-starved SsiAndUsageMarker {n = n} e l = rw (← short-two 6 n l (omega arith)) (starved (readAddress SsiAndUsageMarker) (24 ∷ 6 ∷ []) (λ _ _. tt) e l)
 address-starved SmiAndEventLabel e l = starved (readAddress SmiAndEventLabel) (24 ∷ 10 ∷ []) (λ _ _. tt) e l
+
+-- ---- the elements: what is known where nothing refuses them, and how long they are, at most
+
+pub elements-told : (e : Elements) → elementsRefusal e ≡ 0
+    → (powerRefusal (e .«power_control_element») ≡ 0) × (grantingRefusal (e .«slot_granting_element») ≡ 0) × (allocationRefusal (e .«chan_alloc_element») ≡ 0)
+unfolding elementsRefusal
+elements-told e h =
+    let p = first-none (powerRefusal (e .«power_control_element»)) _ h in
+    let g = first-none (grantingRefusal (e .«slot_granting_element»)) _ (p .1) in
+    (p .0, g .0, first-none (allocationRefusal (e .«chan_alloc_element»)) _ (g .1) .0)
+
+pub power-most : (p : PowerControl) → powerLen p ≤ 5
+power-most PowerControl.Without = lit≤ tt
+power-most (PowerControl.Level v) = lit≤ tt
+
+pub granting-most : (g : SlotGranting) → grantingLen g ≤ 9
+granting-most SlotGranting.Without = lit≤ tt
+granting-most (SlotGranting.Element g) = lit≤ tt
+
+-- ---- the elements: a flag that is cut off, one that is clear and one that is set
+
+module _ {A : Type 0} (p : Reader A) (a : A) where
+  pub optional-short : {s : List ℕ} {c : Cursor} {o n : ℕ} → Left s c o n → n < 1 → run (optional p a) (drop o (within s c)) o ≡ refused 1 o
+  unfolding optional
+  optional-short e l = rw (starved-alone 1 e l)
+
+  pub optional-clear : {h : List Bool} {o x : ℕ} → Word h o 1 x → x ≡ 0 → run (optional p a) (drop o h) o ≡ got a (drop (o + 1) h) (o + 1)
+  unfolding optional
+  optional-clear {x = x} e z = rw (alone e, eq-eqb x 0 z)
+
+  pub optional-set : {h : List Bool} {o x : ℕ} → Word h o 1 x → (x ≡ 0 → ⊥) → run (optional p a) (drop o h) o ≡ run p (drop (o + 1) h) (o + 1)
+  unfolding optional
+  optional-set {x = x} e z = rw (alone e, ne-eqb x 0 z)
