@@ -1,6 +1,6 @@
 -- Pieces of a header: a row as a piece, and two pieces joined.
 use Prim.Native.Nat.{ℕ, _+_, _*_, _%_, _^_, _≤_, _<_}
-use mathlib.Core.Path.{_≡_, refl}
+use mathlib.Core.Path.{_≡_, refl, sym, ap, _∙_}
 use mathlib.Core.List.{List, _∷_, _++_}
 use mathlib.Core.Bool.{Bool}
 use native.Mathlib.Nat.{lt-of-lt-of-le}
@@ -8,8 +8,12 @@ use native.Mathlib.Omega.{arith}
 use lib.Arith.{digits-lt}
 use lib.Dec.{lit<}
 use lib.Pow.{pow-add, pow-mono, shl-exact}
+use lib.ListN.{length}
 use mir.Syntax.{w64}
 use mir.Val.{Fits}
+use Rattle.tetra_core.specs.Bits.{putBits}
+use Rattle.tetra_core.specs.Laws.Values.{length-bitsOfNat}
+use Rattle.tetra_core.specs.Laws.Writes.{putBits-append}
 use Rattle.codec.specs.Row.{Cell, cell, rowBits, RowIs, join-bits}
 use Rattle.mac_resource.specs.Piece.{pieceBits, Holds}
 use Rattle.mac_resource.specs.declared.piece.Piece.{Piece}
@@ -42,3 +46,13 @@ module _ (a b : Piece) (h : (a .value < 2 ^ a .bits) × (b .value < 2 ^ b .bits)
 pub join-holds : {xs ys : List Bool} {n m : ℕ} {p q r : Piece} → Holds xs n p → Holds ys m q → Holds (pieceBits p ++ pieceBits q) (p .bits + q .bits) r
     → Holds (xs ++ ys) (n + m) r
 join-holds a b c = rw (a .is, b .is, a .size, b .size) at c
+
+-- a piece that was put, and bits that were put behind it
+module _ (s : List ℕ) (p : ℕ) {t : List ℕ} {xs : List Bool} {n : ℕ} {q : Piece} (h : Holds xs n q) (e : t ≡ putBits s p (pieceBits q)) where
+  pub put-first : t ≡ putBits s p xs
+  put-first = rw (← h .is) e
+
+  pub put-then : {u : List ℕ} (ys : List Bool) → p + q .bits ≤ 8 * length s → u ≡ putBits t (p + q .bits) ys → u ≡ putBits s p (xs ++ ys)
+  put-then ys l f =
+      let m : length xs ≡ q .bits = ap length (sym (h .is)) ∙ length-bitsOfNat (q .bits) (q .value) in
+      rw (← putBits-append s p xs ys (omega arith), m, ← put-first) f

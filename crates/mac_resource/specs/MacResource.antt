@@ -2,324 +2,187 @@
 -- 3: 16 bits. Then by address type: 0 null, nothing more; 1 SSI; 2 event label; 3 USSI; 4 SMI; 5 SSI, label; 6 SSI, usage marker; 7 SMI,
 -- label. SSI, USSI and SMI have 24 bits, label 10, marker 6. A non-null header goes on with three flags, each followed by its element if set:
 -- power 4, slot grant 8, channel allocation."
-use Prim.Native.Nat.{ℕ, zero, suc, _+_, _*_, _/_, _%_, _^_, _<_}
-use mathlib.Core.Path.{_≡_}
+use Prim.Native.Nat.{ℕ, zero, suc, _+_}
 use mathlib.Core.List.{List, [], _∷_, _++_}
-use mathlib.Core.Bool.{Bool, true, false, cond, not, _&&_}
-use lib.ListN.{drop, getD}
-use lib.Dec.{eqb, leb, ltb}
-use Rattle.tetra_core.specs.Bits.{digit}
+use mathlib.Core.Bool.{Bool, false, cond, not}
+use lib.ListN.{drop}
+use lib.Dec.{eqb}
 use Rattle.tetra_core.specs.Refusal.{unless, first}
 use Rattle.tetra_core.specs.declared.address.SsiType.the-variants as Kind
 use Rattle.tetra_core.specs.declared.address.TetraAddress.{TetraAddress}
 use Rattle.tetra_core.specs.declared.address.TetraAddress.the-variants as Address'
 use Rattle.tetra_core.specs.declared.bitbuffer.Cursor.{Cursor}
 use Rattle.tetra_core.specs.declared.bitbuffer.Moved.{Moved}
-use Rattle.codec.specs.Reader.{Out, got, refused, Reader, done, refuse, field, here, choose, _>>=_}
+use Rattle.tetra_core.specs.Quantity.{octetCount}
+use Rattle.tetra_core.specs.declared.quantity.OctetCount.{OctetCount}
+use Rattle.codec.specs.Reader.{Out, got, refused, Reader, done, choose, _>>=_}
 use Rattle.codec.specs.Header.{atCursor}
-use Rattle.codec.specs.Row.{Cell, cell, rowBits}
+use Rattle.codec.specs.Row.{rowBits}
 use Rattle.codec.specs.Write.{writeAt, writtenAt}
 use Rattle.codec.specs.Cases.{flag}
-use Rattle.tetra_fields.specs.BasicSlotgrant.{readSlotgrant, slotgrantRefusal, slotgrantRow}
-use Rattle.tetra_fields.specs.ChannelAllocation.{readChannelAllocation, lenRefusal, channelAllocationRefusal, channelAllocationBits, channelAllocationLen, normalChannelAllocation}
-use Rattle.mac_resource.specs.declared.enums.mac_resource_addr_type.MacResourceAddrType.{MacResourceAddrType}
-use Rattle.mac_resource.specs.declared.enums.mac_resource_addr_type.MacResourceAddrType.the-variants.{NullPdu, Ssi, EventLabel, Ussi, Smi, SsiAndEventLabel, SsiAndUsageMarker, SmiAndEventLabel}
+use Rattle.mac_resource.specs.declared.enums.mac_resource_addr_type.MacResourceAddrType.the-variants.{NullPdu}
 use Rattle.mac_resource.specs.declared.elements.PowerControl.{PowerControl}
 use Rattle.mac_resource.specs.declared.elements.SlotGranting.{SlotGranting}
 use Rattle.mac_resource.specs.declared.elements.ChannelAllocation.{ChannelAllocation}
 use Rattle.mac_resource.specs.declared.elements.Elements.{Elements}
-use Rattle.mac_resource.specs.declared.elements.PowerPart.{PowerPart}
-use Rattle.mac_resource.specs.declared.elements.GrantingPart.{GrantingPart}
-use Rattle.mac_resource.specs.declared.elements.AllocationPart.{AllocationPart}
-use Rattle.mac_resource.specs.declared.elements.ElementsPart.{ElementsPart}
 use Rattle.mac_resource.specs.declared.fixed.Fixed.{Fixed}
-use Rattle.mac_resource.specs.declared.fixed.FixedPart.{FixedPart}
-use Rattle.mac_resource.specs.declared.address.AddressPart.{AddressPart}
+use Rattle.mac_resource.specs.declared.mac_resource.MacResource.{MacResource}
+use Rattle.mac_resource.specs.declared.mac_resource.MacResourceAnswer.{MacResourceAnswer}
+use Rattle.mac_resource.specs.declared.mac_resource.MacResourceRead.{MacResourceRead}
+use Rattle.mac_resource.specs.declared.mac_resource.MacResourcePart.{MacResourcePart}
+use Rattle.mac_resource.specs.declared.mac_resource.HeaderLen.{HeaderLen}
+use Rattle.mac_resource.specs.declared.mac_resource.LenAndFill.{LenAndFill}
+use Rattle.mac_resource.specs.Address.{typeOf, isNull, isNamed, readAddress, addressLen, wide, addressRefusal, addressRow, normalAddress}
+use Rattle.mac_resource.specs.Fixed.{readFixed, fixedRow}
+use Rattle.mac_resource.specs.Elements.{readElements, elementsRefusal, elementsBits, elementsLen, allocationLenRefusal, normalElements}
 
--- ---- the number of each address type, and the type of an address
+-- ---- what is read
 
-abbrev pub addrTypeNumber : MacResourceAddrType → ℕ
-addrTypeNumber NullPdu = 0
-addrTypeNumber Ssi = 1
-addrTypeNumber EventLabel = 2
-addrTypeNumber Ussi = 3
-addrTypeNumber Smi = 4
-addrTypeNumber SsiAndEventLabel = 5
-addrTypeNumber SsiAndUsageMarker = 6
-addrTypeNumber SmiAndEventLabel = 7
+abbrev pub headerOf : Fixed → TetraAddress → Elements → MacResource
+headerOf f a e =
+    record {
+      «fill_bits» = f .«fill_bits»;
+      «pos_of_grant» = f .«pos_of_grant»;
+      «encryption_mode» = f .«encryption_mode»;
+      «random_access_flag» = f .«random_access_flag»;
+      «length_ind» = f .«length_ind»;
+      addr = a;
+      «power_control_element» = e .«power_control_element»;
+      «slot_granting_element» = e .«slot_granting_element»;
+      «chan_alloc_element» = e .«chan_alloc_element»;
+    }
 
--- the cases of 0 to 6; 7 is the last number of 3 bits
-abbrev pub addrTypes : List MacResourceAddrType
-addrTypes = NullPdu ∷ Ssi ∷ EventLabel ∷ Ussi ∷ Smi ∷ SsiAndEventLabel ∷ SsiAndUsageMarker ∷ []
+-- "reading null clears fill, position, encryption and random access and keeps length"
+abbrev pub nullOf : ℕ → MacResource
+nullOf len =
+    record {
+      «fill_bits» = false;
+      «pos_of_grant» = 0;
+      «encryption_mode» = 0;
+      «random_access_flag» = false;
+      «length_ind» = len;
+      addr = Address'.NullPdu;
+      «power_control_element» = PowerControl.Without;
+      «slot_granting_element» = SlotGranting.Without;
+      «chan_alloc_element» = ChannelAllocation.Without;
+    }
 
-unfoldable pub addrTypeOf : ℕ → MacResourceAddrType
-addrTypeOf v = getD addrTypes v SmiAndEventLabel
+abbrev pub nullPdu : MacResource
+nullPdu = nullOf 2
 
-abbrev pub typeOf : TetraAddress → MacResourceAddrType
-typeOf Address'.NullPdu = NullPdu
-typeOf (Address'.Ssi k v) = Ssi
-typeOf (Address'.EventLabel l) = EventLabel
-typeOf (Address'.Ussi v) = Ussi
-typeOf (Address'.Smi v) = Smi
-typeOf (Address'.SsiAndEventLabel k v l) = SsiAndEventLabel
-typeOf (Address'.SsiAndUsageMarker k v m) = SsiAndUsageMarker
-typeOf (Address'.SmiAndEventLabel v l) = SmiAndEventLabel
+unfoldable pub readMacResource : Reader MacResource
+readMacResource = do
+  f ← readFixed
+  a ← readAddress (f .«addr_type»)
+  choose (isNull a) (done (nullOf (f .«length_ind»))) do
+    e ← readElements
+    done (headerOf f a e)
 
-abbrev pub isNull : TetraAddress → Bool
-isNull Address'.NullPdu = true
-isNull (Address'.Ssi k v) = false
-isNull (Address'.EventLabel l) = false
-isNull (Address'.Ussi v) = false
-isNull (Address'.Smi v) = false
-isNull (Address'.SsiAndEventLabel k v l) = false
-isNull (Address'.SsiAndUsageMarker k v m) = false
-isNull (Address'.SmiAndEventLabel v l) = false
+abbrev pub macResourceOut : List Bool → MacResourcePart → Out MacResource
+macResourceOut h (MacResourcePart.Read v n) = got v (drop n h) n
+macResourceOut h (MacResourcePart.Refused r) = refused (r .number) (r .bit)
 
--- ---- what is read: the first 16 bits
+unfoldable pub macResourceAt : List ℕ → Cursor → MacResourceRead
+macResourceAt = atCursor readMacResource (λ c a. record { cursor = c; answer = a }) MacResourceAnswer.Read MacResourceAnswer.Refused
 
-unfoldable pub readBehindType : Reader Fixed
-readBehindType = do
-  fill ← field 1 done
-  position ← field 1 done
-  encryption ← field 2 done
-  random ← field 1 done
-  len ← field 6 done
-  kind ← field 3 done
-  done (record {
-    «fill_bits» = flag fill;
-    «pos_of_grant» = position;
-    «encryption_mode» = encryption;
-    «random_access_flag» = flag random;
-    «length_ind» = len;
-    «addr_type» = addrTypeOf kind;
-  })
+-- ---- what is written. A header is written with a length and a fill flag, its own or those that a block's writer sets
 
--- a wrong type is refused before any later field
-unfoldable pub readFixed : Reader Fixed
-readFixed = do
-  at ← here done
-  kind ← field 2 done
-  choose (flag kind) (refuse 4 at) readBehindType
+abbrev pub fixedOf : MacResource → ℕ → Bool → Fixed
+fixedOf h len fill =
+    record {
+      «fill_bits» = fill;
+      «pos_of_grant» = h .«pos_of_grant»;
+      «encryption_mode» = h .«encryption_mode»;
+      «random_access_flag» = h .«random_access_flag»;
+      «length_ind» = len;
+      «addr_type» = typeOf (h .addr);
+    }
 
--- a part's answer as an outcome
-abbrev pub fixedOut : List Bool → FixedPart → Out Fixed
-fixedOut h (FixedPart.Read f n) = got f (drop n h) n
-fixedOut h (FixedPart.Refused r) = refused (r .number) (r .bit)
+abbrev pub elementsOf : MacResource → Elements
+elementsOf h =
+    record {
+      «power_control_element» = h .«power_control_element»;
+      «slot_granting_element» = h .«slot_granting_element»;
+      «chan_alloc_element» = h .«chan_alloc_element»;
+    }
 
--- ---- what is read: the address
+-- check 10, which stands here alone: "SSI, USSI or SMI written with encryption". A label alone is written with it
+unfoldable pub encryptedRefusal : MacResource → ℕ
+encryptedRefusal h = cond (isNamed (h .addr)) (unless (eqb (h .«encryption_mode») 0) 10) 0
 
-unfoldable pub one : ℕ → (ℕ → TetraAddress) → Reader TetraAddress
-one w make = do
-  v ← field w done
-  done (make v)
+-- "null with fill, position, encryption or random access not 0"
+unfoldable pub nullRefusal : MacResource → ℕ
+nullRefusal h =
+    cond (isNull (h .addr))
+    (first
+    (unless (not (h .«fill_bits»)) 9
+    ∷ unless (eqb (h .«pos_of_grant») 0) 9
+    ∷ unless (eqb (h .«encryption_mode») 0) 9
+    ∷ unless (not (h .«random_access_flag»)) 9
+    ∷ []))
+    0
 
-unfoldable pub two : ℕ → ℕ → (ℕ → ℕ → TetraAddress) → Reader TetraAddress
-two w x make = do
-  v ← field w done
-  u ← field x done
-  done (make v u)
-
--- an SSI is read as kind Ssi
-unfoldable pub readAddress : MacResourceAddrType → Reader TetraAddress
-readAddress NullPdu = done Address'.NullPdu
-readAddress Ssi = one 24 (Address'.Ssi Kind.Ssi)
-readAddress EventLabel = one 10 Address'.EventLabel
-readAddress Ussi = one 24 Address'.Ussi
-readAddress Smi = one 24 Address'.Smi
-readAddress SsiAndEventLabel = two 24 10 (Address'.SsiAndEventLabel Kind.Ssi)
-readAddress SsiAndUsageMarker = two 24 6 (Address'.SsiAndUsageMarker Kind.Ssi)
-readAddress SmiAndEventLabel = two 24 10 Address'.SmiAndEventLabel
-
-abbrev pub addressOut : List Bool → AddressPart → Out TetraAddress
-addressOut h (AddressPart.Read a n) = got a (drop n h) n
-addressOut h (AddressPart.Refused r) = refused (r .number) (r .bit)
-
-abbrev pub addressLen : MacResourceAddrType → ℕ
-addressLen NullPdu = 0
-addressLen Ssi = 24
-addressLen EventLabel = 10
-addressLen Ussi = 24
-addressLen Smi = 24
-addressLen SsiAndEventLabel = 34
-addressLen SsiAndUsageMarker = 30
-addressLen SmiAndEventLabel = 34
-
--- the address whose bits are the number x
-abbrev pub addressOf : MacResourceAddrType → ℕ → TetraAddress
-addressOf NullPdu x = Address'.NullPdu
-addressOf Ssi x = Address'.Ssi Kind.Ssi (x % 2 ^ 24)
-addressOf EventLabel x = Address'.EventLabel (x % 2 ^ 10)
-addressOf Ussi x = Address'.Ussi (x % 2 ^ 24)
-addressOf Smi x = Address'.Smi (x % 2 ^ 24)
-addressOf SsiAndEventLabel x = Address'.SsiAndEventLabel Kind.Ssi (x / 2 ^ 10 % 2 ^ 24) (x % 2 ^ 10)
-addressOf SsiAndUsageMarker x = Address'.SsiAndUsageMarker Kind.Ssi (x / 2 ^ 6 % 2 ^ 24) (x % 2 ^ 6)
-addressOf SmiAndEventLabel x = Address'.SmiAndEventLabel (x / 2 ^ 10 % 2 ^ 24) (x % 2 ^ 10)
-
--- ---- what is read: the elements, "three flags, each followed by its element if set"
-
-unfoldable pub optional : {A : Type 0} → Reader A → A → Reader A
-optional element without = do
-  present ← field 1 done
-  choose (flag present) element (done without)
-
-abbrev pub powerElement : Reader PowerControl
-powerElement = do
-  level ← field 4 done
-  done (PowerControl.Level level)
-
-abbrev pub grantingElement : Reader SlotGranting
-grantingElement = do
-  g ← readSlotgrant
-  done (SlotGranting.Element g)
-
-abbrev pub allocationElement : Reader ChannelAllocation
-allocationElement = do
-  e ← readChannelAllocation
-  done (ChannelAllocation.Element e)
-
-unfoldable pub readPower : Reader PowerControl
-readPower = optional powerElement PowerControl.Without
-
-unfoldable pub readGranting : Reader SlotGranting
-readGranting = optional grantingElement SlotGranting.Without
-
-unfoldable pub readAllocation : Reader ChannelAllocation
-readAllocation = optional allocationElement ChannelAllocation.Without
-
-unfoldable pub readElements : Reader Elements
-readElements = do
-  power ← readPower
-  granting ← readGranting
-  allocation ← readAllocation
-  done (record { «power_control_element» = power; «slot_granting_element» = granting; «chan_alloc_element» = allocation })
-
-abbrev pub powerOut : List Bool → PowerPart → Out PowerControl
-powerOut h (PowerPart.Read p n) = got p (drop n h) n
-powerOut h (PowerPart.Refused r) = refused (r .number) (r .bit)
-
-abbrev pub grantingOut : List Bool → GrantingPart → Out SlotGranting
-grantingOut h (GrantingPart.Read g n) = got g (drop n h) n
-grantingOut h (GrantingPart.Refused r) = refused (r .number) (r .bit)
-
-abbrev pub allocationOut : List Bool → AllocationPart → Out ChannelAllocation
-allocationOut h (AllocationPart.Read a n) = got a (drop n h) n
-allocationOut h (AllocationPart.Refused r) = refused (r .number) (r .bit)
-
-abbrev pub elementsOut : List Bool → ElementsPart → Out Elements
-elementsOut h (ElementsPart.Read e n) = got e (drop n h) n
-elementsOut h (ElementsPart.Refused r) = refused (r .number) (r .bit)
-
--- ---- what is written: the first 16 bits
-
-pub record FixedFits (f : Fixed) : Type 0 where
-  pub position : f .«pos_of_grant» < 2
-  pub encryption : f .«encryption_mode» < 4
-  pub len : f .«length_ind» < 64
-
-unfoldable pub fixedRow : Fixed → List Cell
-fixedRow f =
-    cell 2 0
-    ∷ cell 1 (digit (f .«fill_bits»))
-    ∷ cell 1 (f .«pos_of_grant»)
-    ∷ cell 2 (f .«encryption_mode»)
-    ∷ cell 1 (digit (f .«random_access_flag»))
-    ∷ cell 6 (f .«length_ind»)
-    ∷ cell 3 (addrTypeNumber (f .«addr_type»))
-    ∷ []
-
--- ---- what is written: the address
-
--- a value wider than its field of w bits
-abbrev pub wide : ℕ → ℕ → ℕ
-wide w v = unless (ltb v (2 ^ w)) 3
-
-abbrev pub addressRefusal : TetraAddress → ℕ
-addressRefusal Address'.NullPdu = 0
-addressRefusal (Address'.Ssi k v) = wide 24 v
-addressRefusal (Address'.EventLabel l) = wide 10 l
-addressRefusal (Address'.Ussi v) = wide 24 v
-addressRefusal (Address'.Smi v) = wide 24 v
-addressRefusal (Address'.SsiAndEventLabel k v l) = first (wide 24 v ∷ wide 10 l ∷ [])
-addressRefusal (Address'.SsiAndUsageMarker k v m) = first (wide 24 v ∷ wide 6 m ∷ [])
-addressRefusal (Address'.SmiAndEventLabel v l) = first (wide 24 v ∷ wide 10 l ∷ [])
-
-abbrev pub addressRow : TetraAddress → List Cell
-addressRow Address'.NullPdu = []
-addressRow (Address'.Ssi k v) = cell 24 v ∷ []
-addressRow (Address'.EventLabel l) = cell 10 l ∷ []
-addressRow (Address'.Ussi v) = cell 24 v ∷ []
-addressRow (Address'.Smi v) = cell 24 v ∷ []
-addressRow (Address'.SsiAndEventLabel k v l) = cell 24 v ∷ cell 10 l ∷ []
-addressRow (Address'.SsiAndUsageMarker k v m) = cell 24 v ∷ cell 6 m ∷ []
-addressRow (Address'.SmiAndEventLabel v l) = cell 24 v ∷ cell 10 l ∷ []
-
--- ---- what is written: the elements
-
-abbrev pub powerRefusal : PowerControl → ℕ
-powerRefusal PowerControl.Without = 0
-powerRefusal (PowerControl.Level v) = wide 4 v
-
-abbrev pub grantingRefusal : SlotGranting → ℕ
-grantingRefusal SlotGranting.Without = 0
-grantingRefusal (SlotGranting.Element g) = slotgrantRefusal g
-
-abbrev pub allocationRefusal : ChannelAllocation → ℕ
-allocationRefusal ChannelAllocation.Without = 0
-allocationRefusal (ChannelAllocation.Element e) = channelAllocationRefusal e
-
-unfoldable pub elementsRefusal : Elements → ℕ
-elementsRefusal e =
+-- the fields in layout order, with the length's own refusal in its place. "Null elements go unchecked"
+unfoldable pub fieldsRefusal : MacResource → ℕ → ℕ
+fieldsRefusal h len =
     first
-    (powerRefusal (e .«power_control_element»)
-    ∷ grantingRefusal (e .«slot_granting_element»)
-    ∷ allocationRefusal (e .«chan_alloc_element»)
+    (encryptedRefusal h
+    ∷ wide 1 (h .«pos_of_grant»)
+    ∷ wide 2 (h .«encryption_mode»)
+    ∷ len
+    ∷ addressRefusal (h .addr)
+    ∷ cond (isNull (h .addr)) 0 (elementsRefusal (elementsOf h))
     ∷ [])
 
-abbrev pub powerRow : PowerControl → List Cell
-powerRow PowerControl.Without = cell 1 0 ∷ []
-powerRow (PowerControl.Level v) = cell 1 1 ∷ cell 4 v ∷ []
+-- what an add to a block checks of a header: "null cannot be added (9)"; the writer sets length and fill
+unfoldable pub addRefusal : MacResource → ℕ
+addRefusal h = first (unless (not (isNull (h .addr))) 9 ∷ fieldsRefusal h 0 ∷ [])
 
-abbrev pub grantingRow : SlotGranting → List Cell
-grantingRow SlotGranting.Without = cell 1 0 ∷ []
-grantingRow (SlotGranting.Element g) = cell 1 1 ∷ slotgrantRow g
+-- "MAC-RESOURCE length 0 written" is 8, before 9
+unfoldable pub macResourceRefusal : MacResource → ℕ
+macResourceRefusal h =
+    first (unless (not (eqb (h .«length_ind») 0)) 8 ∷ nullRefusal h ∷ fieldsRefusal h (wide 6 (h .«length_ind»)) ∷ [])
 
-abbrev pub flagRow : ChannelAllocation → List Cell
-flagRow ChannelAllocation.Without = cell 1 0 ∷ []
-flagRow (ChannelAllocation.Element e) = cell 1 1 ∷ []
+unfoldable pub headerBits : MacResource → ℕ → Bool → List Bool
+headerBits h len fill =
+    rowBits (fixedRow (fixedOf h len fill)) ++ (rowBits (addressRow (h .addr)) ++ cond (isNull (h .addr)) [] (elementsBits (elementsOf h)))
 
-abbrev pub allocationBits : ChannelAllocation → List Bool
-allocationBits ChannelAllocation.Without = []
-allocationBits (ChannelAllocation.Element e) = channelAllocationBits e
+abbrev pub macResourceWrite : List ℕ → Cursor → MacResource → Moved
+macResourceWrite s c h = writeAt s c (macResourceRefusal h) (headerBits h (h .«length_ind») (h .«fill_bits»))
 
--- up to the channel allocation's flag
-unfoldable pub flagsBits : Elements → List Bool
-flagsBits e =
-    rowBits (powerRow (e .«power_control_element»))
-    ++ (rowBits (grantingRow (e .«slot_granting_element»)) ++ rowBits (flagRow (e .«chan_alloc_element»)))
+abbrev pub macResourceWritten : List ℕ → Cursor → MacResource → List ℕ
+macResourceWritten s c h = writtenAt s c (macResourceRefusal h) (headerBits h (h .«length_ind») (h .«fill_bits»))
 
-unfoldable pub elementsBits : Elements → List Bool
-elementsBits e = flagsBits e ++ allocationBits (e .«chan_alloc_element»)
+unfoldable pub normalMacResource : MacResource → ℕ → Bool → MacResource
+normalMacResource h len fill =
+    cond (isNull (h .addr)) (nullOf len) (headerOf (fixedOf h len fill) (normalAddress (h .addr)) (normalElements (elementsOf h)))
 
--- how many bits they are
-abbrev pub powerLen : PowerControl → ℕ
-powerLen PowerControl.Without = 1
-powerLen (PowerControl.Level v) = 5
+-- ---- how many bits
 
-abbrev pub grantingLen : SlotGranting → ℕ
-grantingLen SlotGranting.Without = 1
-grantingLen (SlotGranting.Element g) = 9
+-- also of a header that is refused: "in an add such an element counts 25 or 27 bits"
+unfoldable pub headerLen : MacResource → ℕ
+headerLen h = 16 + addressLen (typeOf (h .addr)) + cond (isNull (h .addr)) 0 (elementsLen (elementsOf h))
 
-abbrev pub allocationLen : ChannelAllocation → ℕ
-allocationLen ChannelAllocation.Without = 1
-allocationLen (ChannelAllocation.Element e) = 1 + channelAllocationLen e
+-- "the three length functions refuse 6 for direction 0, before 8"
+unfoldable pub lengthRefusal : MacResource → ℕ
+lengthRefusal h = cond (isNull (h .addr)) 0 (allocationLenRefusal (h .«chan_alloc_element»))
 
-abbrev pub flagsLen : Elements → ℕ
-flagsLen e = powerLen (e .«power_control_element») + (grantingLen (e .«slot_granting_element») + 1)
+-- a length whose refusal is j, or 0 if nothing refuses it
+abbrev pub lenOr : ℕ → ℕ → HeaderLen
+lenOr zero n = HeaderLen.Len (record { 0 = n })
+lenOr (suc j) n = HeaderLen.Refused (suc j)
 
-abbrev pub elementsLen : Elements → ℕ
-elementsLen e = powerLen (e .«power_control_element») + grantingLen (e .«slot_granting_element») + allocationLen (e .«chan_alloc_element»)
+unfoldable pub computeHeaderLen : MacResource → HeaderLen
+computeHeaderLen h = lenOr (lengthRefusal h) (headerLen h)
 
--- "refuse 6 for direction 0"
-abbrev pub allocationLenRefusal : ChannelAllocation → ℕ
-allocationLenRefusal ChannelAllocation.Without = 0
-allocationLenRefusal (ChannelAllocation.Element e) = lenRefusal e
+-- "octets are header plus content rounded up, fill the bits short of it"; "the flag is set only if fill is not 0"
+abbrev pub lenAndFill : OctetCount → LenAndFill
+lenAndFill (OctetCount.Counted octets fill) = LenAndFill.Counted octets fill (flag (fill .0))
+lenAndFill (OctetCount.Refused j) = LenAndFill.Refused j
+
+abbrev pub lenAndFillOr : ℕ → OctetCount → LenAndFill
+lenAndFillOr zero n = lenAndFill n
+lenAndFillOr (suc j) n = LenAndFill.Refused (suc j)
+
+unfoldable pub updateLenAndFillInd : MacResource → ℕ → LenAndFill
+updateLenAndFillInd h content = lenAndFillOr (lengthRefusal h) (octetCount (headerLen h + content))

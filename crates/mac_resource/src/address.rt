@@ -17,7 +17,7 @@ ghost use Rattle.tetra_core.specs.Laws.Windows.{Good};
 ghost use Rattle.codec.specs.Header.{within, Reads};
 ghost use Rattle.codec.specs.Row.{rowBits, rowWord};
 ghost use Rattle.mac_resource.specs.Piece.{Holds};
-ghost use Rattle.mac_resource.specs.MacResource.{typeOf, isNull, addressLen, addressOf, readAddress, addressOut, addressRefusal, addressRow};
+ghost use Rattle.mac_resource.specs.Address.{typeOf, isNull, isNamed, addressLen, addressOf, readAddress, addressOut, addressRefusal, addressRow};
 
 // An address as a part of a header, and the offset after it.
 pub enum AddressPart {
@@ -38,6 +38,22 @@ pub fn is_null(a: TetraAddress) -> bool
         TetraAddress::SsiAndEventLabel(_, _, _) => false,
         TetraAddress::SsiAndUsageMarker(_, _, _) => false,
         TetraAddress::SmiAndEventLabel(_, _) => false,
+    }
+}
+
+// Whether an address names an SSI, a USSI or an SMI.
+pub fn is_named(a: TetraAddress) -> bool
+    ensures { λ r. ⌜ r ≡ isNamed a ⌝ }
+{
+    match a {
+        TetraAddress::NullPdu => false,
+        TetraAddress::Ssi(_, _) => true,
+        TetraAddress::EventLabel(_) => false,
+        TetraAddress::Ussi(_) => true,
+        TetraAddress::Smi(_) => true,
+        TetraAddress::SsiAndEventLabel(_, _, _) => true,
+        TetraAddress::SsiAndUsageMarker(_, _, _) => true,
+        TetraAddress::SmiAndEventLabel(_, _) => true,
     }
 }
 

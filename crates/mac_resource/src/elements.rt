@@ -4,6 +4,7 @@ use crate::piece::Piece;
 use tetra_core::bitbuffer::Cursor;
 use tetra_core::refusal;
 use tetra_core::refusal::Refusal;
+use tetra_core::word;
 use tetra_fields::fields::basic_slotgrant;
 use tetra_fields::fields::basic_slotgrant::BasicSlotgrant;
 use tetra_fields::fields::basic_slotgrant::SlotgrantPart;
@@ -11,13 +12,14 @@ use tetra_fields::fields::channel_allocation;
 use tetra_fields::fields::channel_allocation::ChanAllocElement;
 use tetra_fields::fields::channel_allocation::ChannelAllocationPart;
 ghost use mathlib.Core.Path.{_≡_};
-ghost use Prim.Native.Nat.{_≤_};
+ghost use Prim.Native.Nat.{_+_, _*_, _≤_};
 ghost use lib.ListN.{length};
+ghost use Rattle.tetra_core.specs.Bits.{putBits};
 ghost use Rattle.tetra_core.specs.Laws.Windows.{Good};
 ghost use Rattle.codec.specs.Header.{within, Reads};
 ghost use Rattle.codec.specs.Row.{rowBits};
 ghost use Rattle.mac_resource.specs.Piece.{Holds};
-ghost use Rattle.mac_resource.specs.MacResource.{readPower, powerOut, readGranting, grantingOut, readAllocation, allocationOut, readElements, elementsOut, powerRefusal, grantingRefusal, allocationRefusal, elementsRefusal, powerLen, grantingLen, allocationLen, elementsLen, allocationLenRefusal, powerRow, grantingRow, flagRow, flagsBits, flagsLen};
+ghost use Rattle.mac_resource.specs.Elements.{readPower, powerOut, readGranting, grantingOut, readAllocation, allocationOut, readElements, elementsOut, powerRefusal, grantingRefusal, allocationRefusal, elementsRefusal, powerLen, grantingLen, allocationLen, elementsLen, allocationLenRefusal, powerRow, grantingRow, flagRow, flagsBits, flagsLen, elementsBits};
 
 pub enum PowerControl {
     Without,
@@ -325,4 +327,20 @@ pub fn flags_piece(e: Elements) -> Piece
     let allocation = e.chan_alloc_element;
     let behind = piece::joined(granting_piece(granting), flag_piece(allocation));
     piece::joined(power_piece(power), behind)
+}
+
+// Puts the three flags with their elements into s from pos on.
+pub fn put_elements(s: &mut [u8], pos: usize, e: Elements)
+    requires { ⌜ (pos + elementsLen e ≤ 8 * length (now s)) × (pos + elementsLen e ≤ 65536) × (elementsRefusal e ≡ 0) ⌝ }
+    ensures { λ r. ⌜ now (s .exit) ≡ putBits (now (s .entry)) pos (elementsBits e) ⌝ }
+{
+    let flags = flags_piece(e);
+    let n = flags.bits;
+    let x = flags.value;
+    word::put_bits(s, pos, n, x);
+    let allocation = e.chan_alloc_element;
+    let ChannelAllocation::Element(a) = allocation else {
+        return;
+    };
+    channel_allocation::put_channel_allocation(s, pos + n, a);
 }

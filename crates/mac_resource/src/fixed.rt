@@ -5,14 +5,13 @@ use crate::piece::Piece;
 use tetra_core::bitbuffer::Cursor;
 use tetra_core::refusal;
 use tetra_core::refusal::Refusal;
-ghost use mathlib.Core.Path.{_≡_};
-ghost use Prim.Native.Nat.{_^_, _<_};
+ghost use Prim.Native.Nat.{_<_};
 ghost use lib.ListN.{length};
 ghost use Rattle.tetra_core.specs.Laws.Windows.{Good};
 ghost use Rattle.codec.specs.Header.{within, Reads};
 ghost use Rattle.codec.specs.Row.{rowBits};
 ghost use Rattle.mac_resource.specs.Piece.{Holds};
-ghost use Rattle.mac_resource.specs.MacResource.{readFixed, fixedOut, fixedRow, FixedFits};
+ghost use Rattle.mac_resource.specs.Fixed.{readFixed, fixedOut, fixedRow, FixedFits};
 
 pub struct Fixed {
     pub fill_bits: bool,

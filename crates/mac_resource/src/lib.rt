@@ -3,4 +3,5 @@ pub mod address;
 pub mod elements;
 pub mod enums;
 pub mod fixed;
+pub mod mac_resource;
 pub mod piece;

@@ -1,10 +1,7 @@
 // Bits on their way to being written: several parts of a header become one number, and one write.
 use tetra_core::word;
 ghost use mathlib.Core.List.{_++_};
-ghost use mathlib.Core.Path.{_≡_};
-ghost use Prim.Native.Nat.{_+_, _*_, _^_, _≤_, _<_};
-ghost use lib.ListN.{length};
-ghost use Rattle.tetra_core.specs.Bits.{bitsOfNat, putBits};
+ghost use Prim.Native.Nat.{_+_, _^_, _≤_, _<_};
 ghost use Rattle.mac_resource.specs.Piece.{pieceBits, Holds};
 
 // The low bits of a number.

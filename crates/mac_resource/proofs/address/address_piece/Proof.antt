@@ -1,8 +1,8 @@
 use borrow.Author.Needs.{needs}
 use Rattle.codec.specs.Row.{row-is}
-use Rattle.mac_resource.specs.MacResource.{addressRow}
+use Rattle.mac_resource.specs.Address.{addressRow}
 use Rattle.mac_resource.proofs.Pieces.{row-holds}
-use Rattle.mac_resource.specs.Laws.MacResource.{address-size, address-fits}
+use Rattle.mac_resource.specs.Laws.Address.{address-size, address-fits}
 use Rattle.mac_resource.proofs.address.address_piece.Statement.{statement}
 use Rattle.mac_resource.proofs.address.address_piece.Tie as tie
 

@@ -1,7 +1,7 @@
 use native.Mathlib.Omega.{arith}
 use borrow.Author.Needs.{needs}
-use Rattle.mac_resource.specs.MacResource.{flagsBits}
-use Rattle.mac_resource.specs.Laws.MacResource.{elements-told, power-most, granting-most}
+use Rattle.mac_resource.specs.Elements.{flagsBits}
+use Rattle.mac_resource.specs.Laws.Elements.{elements-told, power-most, granting-most}
 use Rattle.mac_resource.proofs.Pieces.{join-holds}
 use Rattle.mac_resource.proofs.elements.flags_piece.Statement.{statement}
 use Rattle.mac_resource.proofs.elements.flags_piece.Tie as tie

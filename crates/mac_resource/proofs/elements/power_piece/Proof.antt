@@ -2,7 +2,7 @@ use borrow.Author.Needs.{needs}
 use mathlib.Core.List.{[], _∷_}
 use lib.Dec.{lit<}
 use Rattle.codec.specs.Row.{cell, row-is}
-use Rattle.mac_resource.specs.Laws.MacResource.{narrow}
+use Rattle.mac_resource.specs.Laws.Address.{narrow}
 use Rattle.mac_resource.proofs.Pieces.{row-holds}
 use Rattle.mac_resource.proofs.elements.power_piece.Statement.{statement}
 use Rattle.mac_resource.proofs.elements.power_piece.Tie as tie

@@ -1,7 +1,7 @@
 use borrow.Author.Needs.{needs}
 use Rattle.codec.specs.Header.{read}
 use Rattle.codec.specs.Reader.{run-bind}
-use Rattle.mac_resource.specs.MacResource.{readElements}
+use Rattle.mac_resource.specs.Elements.{readElements}
 use Rattle.mac_resource.proofs.elements.read_each.Statement.{statement}
 use Rattle.mac_resource.proofs.elements.read_each.Tie as tie
 

@@ -1,6 +1,6 @@
 use borrow.Author.Needs.{needs}
 use Rattle.codec.specs.Header.{fed}
-use Rattle.mac_resource.specs.MacResource.{optional, readPower, readGranting, readAllocation, readElements}
+use Rattle.mac_resource.specs.Elements.{optional, readPower, readGranting, readAllocation, readElements}
 use Rattle.mac_resource.proofs.elements.read_elements.Statement.{statement}
 use Rattle.mac_resource.proofs.elements.read_elements.Tie as tie
 

@@ -1,8 +1,8 @@
 use borrow.Author.Needs.{needs}
 use Rattle.codec.specs.Row.{row-is}
-use Rattle.mac_resource.specs.MacResource.{fixedRow}
+use Rattle.mac_resource.specs.Fixed.{fixedRow}
 use Rattle.mac_resource.proofs.Pieces.{row-holds}
-use Rattle.mac_resource.specs.Laws.MacResource.{fixed-fits}
+use Rattle.mac_resource.specs.Laws.Fixed.{fixed-fits}
 use Rattle.mac_resource.proofs.fixed.fixed_piece.Statement.{statement}
 use Rattle.mac_resource.proofs.fixed.fixed_piece.Tie as tie
 

@@ -3,7 +3,7 @@ use native.Mathlib.Omega.{arith}
 use borrow.Author.Needs.{needs}
 use borrow.Author.Tests.{eq-eqb, ne-eqb}
 use Rattle.codec.specs.Header.{fed, alone, starved, starved-alone, left-on}
-use Rattle.mac_resource.specs.MacResource.{readFixed, readBehindType}
+use Rattle.mac_resource.specs.Fixed.{readFixed, readBehindType}
 use Rattle.mac_resource.proofs.fixed.read_fixed.Statement.{statement}
 use Rattle.mac_resource.proofs.fixed.read_fixed.Tie as tie
 
