@@ -187,7 +187,7 @@ abbrev pub channelAllocationWritten : List ℕ → Cursor → ChanAllocElement �
 channelAllocationWritten s c e = writtenAt s c (channelAllocationRefusal e) (channelAllocationBits e)
 
 -- "a frame-18 pattern without pattern 0 vanishes"
-abbrev pub normalChannelAllocation : ChanAllocElement → ChanAllocElement
+unfoldable pub normalChannelAllocation : ChanAllocElement → ChanAllocElement
 normalChannelAllocation e =
     record {
       «alloc_type» = e .«alloc_type»;

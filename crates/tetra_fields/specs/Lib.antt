@@ -1,3 +1,4 @@
 pub mod BasicSlotgrant
 pub mod ChannelAllocation
+pub mod Taken
 pub mod Laws

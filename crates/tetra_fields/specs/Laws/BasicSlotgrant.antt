@@ -1,12 +1,12 @@
--- A slot grant that nothing refuses fits its 8 bits, and what was written is read back.
-use Prim.Native.Nat.{ℕ, _+_, _<_}
+-- A slot grant that nothing refuses fits its 8 bits; what was written is read back, and what was read is written as the same bits.
+use Prim.Native.Nat.{ℕ, _+_, _-_, _<_}
 use mathlib.Core.Path.{_≡_, refl}
-use mathlib.Core.List.{List, _++_}
+use mathlib.Core.List.{List, [], _++_, append-nil}
 use mathlib.Core.Bool.{Bool}
 use native.Mathlib.Omega.{arith}
-use lib.ListN.{length}
-use lib.Dec.{leb, lit<}
-use borrow.Author.Tests.{leb-true, ne-eqb}
+use lib.ListN.{length, take}
+use lib.Dec.{leb, eqb, lit<}
+use borrow.Author.Tests.{leb-true, eqb-true, ne-eqb}
 use Rattle.tetra_core.specs.BitBuffer.{moved}
 use Rattle.tetra_core.specs.Refusal.{passed}
 use Rattle.tetra_core.specs.Laws.Windows.{and-both}
@@ -15,6 +15,7 @@ use Rattle.codec.specs.Reader.{got, run}
 use Rattle.codec.specs.Row.{rowBits, RowFits, length-row}
 use Rattle.codec.specs.Write.{refusalAt, free}
 use Rattle.codec.specs.Back.{gives, written-back}
+use Rattle.tetra_fields.specs.Taken.{Always, took, below, numbers}
 use Rattle.tetra_fields.specs.BasicSlotgrant.{capAllocNumber, capAllocOf, delayNumber, delayOf, delayRefusal, readSlotgrant, slotgrantAt, slotgrantRefusal, slotgrantRow, slotgrantWritten}
 use Rattle.tetra_fields.specs.declared.enums.basic_slotgrant_cap_alloc.BasicSlotgrantCapAlloc.{BasicSlotgrantCapAlloc}
 use Rattle.tetra_fields.specs.declared.enums.basic_slotgrant_cap_alloc.BasicSlotgrantCapAlloc.the-variants.{FirstSubslotGranted, Grant1Slot, Grant2Slots, Grant3Slots, Grant4Slots, Grant5Slots, Grant6Slots, Grant8Slots, Grant10Slots, Grant13Slots, Grant17Slots, Grant24Slots, Grant34Slots, Grant51Slots, Grant68Slots, SecondSubslotGranted}
@@ -75,3 +76,28 @@ pub slotgrant-written-back : (s : List ℕ) (c : Cursor) (g : BasicSlotgrant) �
 unfolding slotgrantAt
 slotgrant-written-back s c g e =
     written-back readSlotgrant _ _ _ s c (slotgrantRefusal g) _ (slotgrant-length g) (λ rest. slotgrant-back g (free _ _ _ _ e .value) rest 0) e
+
+-- ---- what is read, written again
+
+cap-alloc-numbers : (v : ℕ) → v < 16 → capAllocNumber (capAllocOf v) ≡ v
+unfolding capAllocOf
+cap-alloc-numbers = numbers capAllocNumber capAllocOf 16 refl
+
+delay-numbers : (v : ℕ) → v < 16 → delayNumber (delayOf v) ≡ v
+unfolding delayOf
+delay-numbers = numbers delayNumber delayOf 16 refl
+
+delay-free : (v : ℕ) → v < 16 → delayRefusal (delayOf v) ≡ 0
+unfolding delayOf
+delay-free v h = eqb-true _ _ (below 16 (λ v. eqb (delayRefusal (delayOf v)) 0) refl v h)
+
+-- a slot grant is not refused, and its bits are xs
+abbrev pub SlotgrantAgain : BasicSlotgrant → List Bool → Type 0
+SlotgrantAgain g xs = (slotgrantRefusal g ≡ 0) × (rowBits (slotgrantRow g) ≡ xs)
+
+pub slotgrant-always : Always SlotgrantAgain [] readSlotgrant
+unfolding readSlotgrant slotgrantRefusal slotgrantRow rowBits
+slotgrant-always = λ a ha d hd. (delay-free d hd, rw (cap-alloc-numbers a ha, delay-numbers d hd, append-nil))
+
+pub slotgrant-again : (bs : List Bool) (o : ℕ) {g : BasicSlotgrant} {r : List Bool} {n : ℕ} → run readSlotgrant bs o ≡ got g r n → SlotgrantAgain g (take (n - o) bs)
+slotgrant-again bs o h = took SlotgrantAgain readSlotgrant [] bs o slotgrant-always h

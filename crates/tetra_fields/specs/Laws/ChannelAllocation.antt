@@ -1,17 +1,17 @@
--- A channel allocation that nothing refuses fits its bits, is as long as its length says, and what was written is read back in its normal
--- form.
-use Prim.Native.Nat.{ℕ, zero, suc, _+_, _*_, _≤_, _<_}
+-- A channel allocation that nothing refuses fits its bits and is as long as its length says; what was written is read back in its normal
+-- form, and what was read is written as the same bits.
+use Prim.Native.Nat.{ℕ, _-_, zero, suc, _+_, _*_, _≤_, _<_}
 use mathlib.Core.Path.{_≡_, refl}
 use mathlib.Core.List.{List, [], _∷_, _++_, append-assoc, append-nil}
 use mathlib.Core.Bool.{Bool, true, false, cond}
 use native.Mathlib.Omega.{arith}
 use native.Mathlib.Nat.{add-assoc, zero-add}
-use lib.ListN.{length, length-append}
+use lib.ListN.{length, take, length-append}
 use lib.Dec.{eqb, ltb, lit<}
-use borrow.Author.Tests.{ltb-true, eqb-true, eq-eqb, ne-eqb}
-use Rattle.tetra_core.specs.Bits.{digit}
+use borrow.Author.Tests.{ltb-true, eqb-true, eqb-false, lt-ltb, eq-eqb, ne-eqb, not-false}
+use Rattle.tetra_core.specs.Bits.{digit, bitsOfNat}
 use Rattle.tetra_core.specs.BitBuffer.{moved}
-use Rattle.tetra_core.specs.Refusal.{unless, first-none, passed}
+use Rattle.tetra_core.specs.Refusal.{unless, first, first-none, passed}
 use Rattle.tetra_core.specs.Laws.Values.{digit-lt}
 use Rattle.tetra_core.specs.declared.bitbuffer.Cursor.{Cursor}
 use Rattle.codec.specs.Reader.{got, run}
@@ -19,7 +19,8 @@ use Rattle.codec.specs.Feed.{field-alone}
 use Rattle.codec.specs.Row.{cell, rowBits, RowFits, length-row}
 use Rattle.codec.specs.Write.{refusalAt, free}
 use Rattle.codec.specs.Back.{give, gives, written-back}
-use Rattle.codec.specs.Cases.{flag-back}
+use Rattle.codec.specs.Cases.{flag, flag-back}
+use Rattle.tetra_fields.specs.Taken.{Always, took, numbers}
 use Rattle.tetra_fields.specs.ChannelAllocation.{allocTypeNumber, allocTypeOf, ulDlNumber, ulDlOf, ulDlRefusal, timeslotsNumber, timeslotsOf, frame18Number, readMonPatterns, readChannelAllocation, channelAllocationAt, patternRefusal, frame18Refusal, lenRefusal, channelAllocationRefusal, channelAllocationRow, frame18Row, channelAllocationBits, channelAllocationLen, lenOr, computeLen, channelAllocationWritten, normalChannelAllocation}
 use Rattle.tetra_fields.specs.declared.enums.alloc_type.ChanAllocType.{ChanAllocType}
 use Rattle.tetra_fields.specs.declared.enums.alloc_type.ChanAllocType.the-variants.{Replace, Additional, QuitAndGo, ReplaceWithCarrierSignalling}
@@ -145,7 +146,7 @@ module _ (e : ChanAllocElement) (h : channelAllocationRefusal e ≡ 0) where
   -- whatever follows its bits
   pub channel-allocation-back : (rest : List Bool) (o : ℕ)
       → run readChannelAllocation (channelAllocationBits e ++ rest) o ≡ got (normalChannelAllocation e) rest (o + channelAllocationLen e)
-  unfolding readChannelAllocation readMonPatterns channelAllocationRow frame18Row channelAllocationBits channelAllocationLen lenRefusal rowBits
+  unfolding readChannelAllocation readMonPatterns channelAllocationRow frame18Row channelAllocationBits channelAllocationLen lenRefusal normalChannelAllocation rowBits
   channel-allocation-back rest o =
       rw (
         append-assoc (rowBits (channelAllocationRow e)) (rowBits (frame18Row e)) rest,
@@ -189,3 +190,71 @@ unfolding channelAllocationAt
 channel-allocation-written-back s c e h =
     written-back readChannelAllocation _ _ _ s c (channelAllocationRefusal e) (channelAllocationBits e) (channel-allocation-length e)
     (λ rest. rw zero-add at (channel-allocation-back e (free _ _ _ _ h .value) rest 0)) h
+
+-- ---- what is read, written again
+
+alloc-type-numbers : (v : ℕ) → v < 4 → allocTypeNumber (allocTypeOf v) ≡ v
+unfolding allocTypeOf
+alloc-type-numbers = numbers allocTypeNumber allocTypeOf 4 refl
+
+ul-dl-numbers : (v : ℕ) → v < 4 → ulDlNumber (ulDlOf v) ≡ v
+unfolding ulDlOf
+ul-dl-numbers = numbers ulDlNumber ulDlOf 4 refl
+
+-- a direction other than 0 is written
+ul-dl-free : (v : ℕ) → v < 4 → (v ≡ 0 → ⊥) → ulDlRefusal (ulDlOf v) ≡ 0
+unfolding ulDlOf
+ul-dl-free zero h z = absurd (z refl)
+ul-dl-free (suc zero) h z = refl
+ul-dl-free (suc (suc zero)) h z = refl
+ul-dl-free (suc (suc (suc v))) h z = refl
+
+-- an element is not refused, it is in normal form, and its bits are xs
+abbrev pub ChannelAllocationAgain : ChanAllocElement → List Bool → Type 0
+ChannelAllocationAgain e xs = (channelAllocationRefusal e ≡ 0) × (normalChannelAllocation e ≡ e) × (channelAllocationBits e ≡ xs)
+
+-- the fields that are read, with the frame-18 pattern p, whose bits are ys
+fields-again : {a t d c f k x m : ℕ} (p : Frame18Pattern) (ys : List Bool) → a < 4 → t < 16 → d < 4 → eqb d 0 ≡ false → c < 2 → f < 2 → k < 4096 → x < 2 → flag x ≡ false → m < 4
+    → cond (eqb m 0) (patternRefusal p) 0 ≡ 0 → cond (eqb m 0) p Without ≡ p → rowBits (cond (eqb m 0) (cell 2 (frame18Number p) ∷ []) []) ≡ ys
+    → ChannelAllocationAgain
+    (record {
+      «alloc_type» = allocTypeOf a;
+      «ts_assigned» = timeslotsOf t;
+      «ul_dl_assigned» = ulDlOf d;
+      «clch_permission» = flag c;
+      «cell_change_flag» = flag f;
+      «carrier_num» = k;
+      «mon_pattern» = m;
+      «frame18_mon_pattern» = p;
+    })
+    ((((((((bitsOfNat 2 a ++ bitsOfNat 4 t) ++ bitsOfNat 2 d) ++ bitsOfNat 1 c) ++ bitsOfNat 1 f) ++ bitsOfNat 12 k) ++ bitsOfNat 1 x) ++ bitsOfNat 2 m) ++ ys)
+unfolding channelAllocationRefusal frame18Refusal lenRefusal channelAllocationBits channelAllocationRow frame18Row normalChannelAllocation rowBits first
+fields-again {a} {t} {d} {c} {f} {k} {x} {m} p ys ha ht hd d0 hc hf hk hx x0 hm free stays tail = (
+  rw (lt-ltb k 4096 hk, lt-ltb m 4 hm, free, ul-dl-free d hd (eqb-false d 0 d0)),
+  rw stays,
+  rw (
+    alloc-type-numbers a ha,
+    numbers timeslotsNumber timeslotsOf 16 refl t ht,
+    ul-dl-numbers d hd,
+    numbers digit flag 2 refl c hc,
+    numbers digit flag 2 refl f hf,
+    tail,
+    eqb-true x 0 (not-false _ x0),
+  )
+      (simp append-assoc),
+)
+
+pub channel-allocation-always : Always ChannelAllocationAgain [] readChannelAllocation
+unfolding readChannelAllocation readMonPatterns rowBits
+channel-allocation-always =
+    λ a ha t ht _ d hd c hc f hf k hk _ x hx. (
+      λ _. tt,
+      λ x0 m hm. (
+        λ m0 v hv. (λ _. tt, λ d0. fields-again (Pattern v) (bitsOfNat 2 v) ha ht hd d0 hc hf hk hx x0 hm (rw (m0, lt-ltb v 4 hv)) (rw m0) (rw (m0, append-nil))),
+        λ m0. (λ _. tt, λ d0. rw append-nil at (fields-again Without [] ha ht hd d0 hc hf hk hx x0 hm (rw m0) (rw m0) (rw m0))),
+      ),
+    )
+
+pub channel-allocation-again : (bs : List Bool) (o : ℕ) {e : ChanAllocElement} {r : List Bool} {n : ℕ} → run readChannelAllocation bs o ≡ got e r n
+    → ChannelAllocationAgain e (take (n - o) bs)
+channel-allocation-again bs o h = took ChannelAllocationAgain readChannelAllocation [] bs o channel-allocation-always h
