@@ -1,4 +1,4 @@
-// What a MAC-ACCESS and a MAC-DATA begin with, clauses 21.4.2.1 and 21.4.2.3: PDU type 0, of 1 bit and of 2, fill 1, encrypted 1, address type 2, address.
+// What MAC-ACCESS and MAC-DATA begin with, clauses 21.4.2.1 and 21.4.2.3: PDU type 1 or 2, fill 1, encrypted 1, address type 2, address.
 use crate::fields::uplink_address;
 use crate::fields::uplink_address::UplinkAddressPart;
 use tetra_core::address;
@@ -27,6 +27,12 @@ pub enum UplinkHeadPart {
     Refused(Refusal),
 }
 
+fn refused(number: u8, bit: usize) -> UplinkHeadPart
+    ensures { λ r. ⌜ r ≡ UplinkHeadPart.Refused (record { number = number; bit = bit }) ⌝ }
+{
+    UplinkHeadPart::Refused(Refusal { number, bit })
+}
+
 // The head at the offset o of a header whose PDU type has w bits.
 pub fn read_uplink_head(s: &[u8], c: Cursor, o: usize, w: usize) -> UplinkHeadPart
     requires { ⌜ Good (length (now s)) c × (1 ≤ w) × (w ≤ 2) ⌝ }
@@ -34,29 +40,20 @@ pub fn read_uplink_head(s: &[u8], c: Cursor, o: usize, w: usize) -> UplinkHeadPa
 {
     let left = codec::left(s, c, o);
     if left < w {
-        return UplinkHeadPart::Refused(Refusal {
-            number: refusal::READ_PAST_END,
-            bit: o,
-        });
+        return refused(refusal::READ_PAST_END, o);
     }
     let o1 = o + w;
     let n = w + 4;
     if left < n {
         if codec::word(s, c, o, w) != 0 {
-            return UplinkHeadPart::Refused(Refusal {
-                number: refusal::WRONG_PDU_TYPE,
-                bit: o,
-            });
+            return refused(refusal::WRONG_PDU_TYPE, o);
         }
         let widths = [1u8, 1, 2];
         return UplinkHeadPart::Refused(codec::short(&widths, left - w, o1));
     }
     let x = codec::word(s, c, o, n);
     if x >> 4 != 0 {
-        return UplinkHeadPart::Refused(Refusal {
-            number: refusal::WRONG_PDU_TYPE,
-            bit: o,
-        });
+        return refused(refusal::WRONG_PDU_TYPE, o);
     }
     match uplink_address::read_uplink_address(s, c, o1 + 4, x % 4) {
         UplinkAddressPart::Refused(r) => UplinkHeadPart::Refused(r),

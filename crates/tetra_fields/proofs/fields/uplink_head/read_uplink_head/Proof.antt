@@ -22,11 +22,13 @@ first-of {h} {o} {x} w m e = rw (e .bits, field-word w m x (drop (o + (w + m)) h
 
 returns : tie.Need-returns
 unfolding readUplinkHead
-returns c = record { means = rw (starved-alone (c .before .before .before .args .w) (c .before .left .ensures) (c .if1 .taken)) }
+returns c =
+    let l = c .before .before in
+    record { means = rw (c .refused .ensures, starved-alone (l .before .before .args .w) (l .left .ensures) (c .before .if1 .taken)) }
 
 returns-2 : tie.Need-returns-2
 unfolding readUplinkHead
-returns-2 c = record { means = rw (alone (c .before .word .ensures), ne-eqb _ _ (c .if3 .taken)) }
+returns-2 c = record { means = rw (c .refused2 .ensures, alone (c .before .before .word .ensures), ne-eqb _ _ (c .before .if3 .taken)) }
 
 returns-3 : tie.Need-returns-3
 unfolding readUplinkHead readUplinkBody
@@ -46,8 +48,14 @@ returns-3 c =
 returns-4 : tie.Need-returns-4
 unfolding readUplinkHead
 returns-4 c =
-    let w = c .before .before .before .before .before .before .args .w in
-    record { means = rw (first-of w 4 (c .before .word2 .ensures), ne-eqb _ _ (c .if4 .taken)) }
+    let x = c .before .before in
+    record {
+      means = rw (
+        c .refused3 .ensures,
+        first-of (x .before .before .before .before .before .args .w) 4 (x .word2 .ensures),
+        ne-eqb _ _ (c .before .if4 .taken),
+      );
+    }
 
 returns-5 : tie.Need-returns-5
 unfolding readUplinkHead readUplinkBody
@@ -86,14 +94,17 @@ read-uplink-head-spec =
     tie.close
     (tie.spec
     (λ c κs. search needs)
+    (λ c κs. search needs)
     returns
     (λ c. search needs)
     (λ c. search needs)
+    (λ c κs. search needs)
     (λ c κs. search needs)
     returns-2
     (λ c. search needs)
     (λ c κs. search needs)
     returns-3
+    (λ c κs. search needs)
     (λ c κs. search needs)
     returns-4
     (λ c. search needs)
