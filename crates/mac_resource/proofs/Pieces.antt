@@ -17,6 +17,17 @@ use Rattle.tetra_core.specs.Laws.Writes.{putBits-append}
 use Rattle.codec.specs.Row.{Cell, cell, rowBits, RowIs, join-bits}
 use Rattle.mac_resource.specs.Piece.{pieceBits, Holds}
 use Rattle.mac_resource.specs.declared.piece.Piece.{Piece}
+use Prim.Native.Nat.{ℕ, _+_, _≤_, _<_}
+use mathlib.Core.Path.{_≡_, ap, _∙_}
+use mathlib.Core.List.{List, _∷_, _++_, append-assoc, append-nil}
+use lib.ListN.{length}
+use lib.Dec.{lit<}
+use Rattle.codec.specs.Row.{Cell, cell, rowBits}
+use Rattle.tetra_fields.specs.ChannelAllocation.{channelAllocationBits, channelAllocationLen}
+use Rattle.tetra_fields.specs.declared.fields.channel_allocation.ChanAllocElement.{ChanAllocElement}
+use Rattle.mac_resource.specs.Elements.{allocationBits, flagsBits, elementsBits, allocationLen, flagsLen, elementsLen}
+use Rattle.mac_resource.specs.declared.elements.ChannelAllocation.{ChannelAllocation}
+use Rattle.mac_resource.specs.declared.elements.Elements.{Elements}
 
 -- a number that stands for a row
 pub row-holds : {r : List Cell} {n x : ℕ} → RowIs r n x → Holds (rowBits r) n (record { value = x; bits = n })
@@ -56,3 +67,17 @@ module _ (s : List ℕ) (p : ℕ) {t : List ℕ} {xs : List Bool} {n : ℕ} {q :
   put-then ys l f =
       let m : length xs ≡ q .bits = ap length (sym (h .is)) ∙ length-bitsOfNat (q .bits) (q .value) in
       rw (← putBits-append s p xs ys (omega arith), m, ← put-first) f
+
+-- the flags, and the channel allocation behind them where there is one
+module _ (e : Elements) where
+  flags-then : elementsBits e ≡ flagsBits e ++ allocationBits (e .«chan_alloc_element»)
+  unfolding elementsBits flagsBits
+  flags-then = simp append-assoc
+
+  pub flags-alone : e .«chan_alloc_element» ≡ ChannelAllocation.Without → elementsBits e ≡ flagsBits e
+  flags-alone h = flags-then ∙ ap (λ (x : ChannelAllocation). flagsBits e ++ allocationBits x) h ∙ append-nil (flagsBits e)
+
+  pub flags-and : (a : ChanAllocElement) → e .«chan_alloc_element» ≡ ChannelAllocation.Element a
+      → (elementsBits e ≡ flagsBits e ++ channelAllocationBits a) × (elementsLen e ≡ flagsLen e + channelAllocationLen a)
+  flags-and a h =
+      (flags-then ∙ ap (λ (x : ChannelAllocation). flagsBits e ++ allocationBits x) h, omega (arith, ap allocationLen h))

@@ -3,3 +3,4 @@ pub mod Address
 pub mod Fixed
 pub mod Elements
 pub mod MacResource
+pub mod Again

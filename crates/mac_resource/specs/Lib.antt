@@ -4,3 +4,4 @@ pub mod Fixed
 pub mod Elements
 pub mod MacResource
 pub mod Laws
+pub mod Examples

@@ -1,26 +1,22 @@
 -- The elements: what is known where nothing refuses them, how long they are, and what was written is read back.
-use Prim.Native.Nat.{ℕ, _+_, _≤_, _<_}
-use mathlib.Core.Path.{_≡_, ap, _∙_}
-use mathlib.Core.List.{List, [], _∷_, _++_, append-assoc, append-nil}
+use Prim.Native.Nat.{ℕ, _+_, _≤_}
+use mathlib.Core.Path.{_≡_}
+use mathlib.Core.List.{List, [], _∷_, _++_, append-assoc}
 use mathlib.Core.Bool.{Bool}
 use native.Mathlib.Omega.{arith}
 use native.Mathlib.Nat.{add-assoc}
-use lib.ListN.{length, drop, length-append}
+use lib.ListN.{length, length-append}
 use lib.Dec.{lit<, lit≤}
-use borrow.Author.Tests.{eq-eqb, ne-eqb}
 use Rattle.tetra_core.specs.Refusal.{first-none}
-use Rattle.tetra_core.specs.declared.bitbuffer.Cursor.{Cursor}
-use Rattle.codec.specs.Reader.{got, refused, Reader, run, run-bind}
+use Rattle.codec.specs.Reader.{got, Reader, run, run-bind}
 use Rattle.codec.specs.Feed.{field-alone}
-use Rattle.codec.specs.Header.{within, Word, Left, alone, starved-alone}
 use Rattle.codec.specs.Row.{Cell, cell, rowBits, length-row}
 use Rattle.codec.specs.Back.{gives}
 use Rattle.tetra_fields.specs.BasicSlotgrant.{slotgrantRow}
-use Rattle.tetra_fields.specs.ChannelAllocation.{channelAllocationBits, channelAllocationLen}
-use Rattle.tetra_fields.specs.declared.fields.channel_allocation.ChanAllocElement.{ChanAllocElement}
+use Rattle.tetra_fields.specs.ChannelAllocation.{channelAllocationBits}
 use Rattle.tetra_fields.specs.Laws.BasicSlotgrant.{slotgrant-back}
-use Rattle.tetra_fields.specs.Laws.ChannelAllocation.{channel-allocation-length, channel-allocation-back}
-use Rattle.mac_resource.specs.Elements.{optional, powerElement, grantingElement, allocationElement, readPower, readGranting, readAllocation, readElements, powerRefusal, grantingRefusal, allocationRefusal, elementsRefusal, powerRow, grantingRow, flagRow, allocationBits, flagsBits, elementsBits, powerLen, grantingLen, allocationLen, flagsLen, elementsLen, normalAllocation, normalElements}
+use Rattle.tetra_fields.specs.Laws.ChannelAllocation.{channel-allocation-length, channel-allocation-len, channel-allocation-back}
+use Rattle.mac_resource.specs.Elements.{optional, powerElement, grantingElement, allocationElement, readPower, readGranting, readAllocation, readElements, powerRefusal, grantingRefusal, allocationRefusal, elementsRefusal, powerRow, grantingRow, flagRow, allocationBits, elementsBits, powerLen, grantingLen, allocationLen, flagsLen, elementsLen, normalAllocation, normalElements}
 use Rattle.mac_resource.specs.Laws.Address.{narrow}
 use Rattle.mac_resource.specs.declared.elements.PowerControl.{PowerControl}
 use Rattle.mac_resource.specs.declared.elements.SlotGranting.{SlotGranting}
@@ -35,28 +31,7 @@ elements-told e h =
     let g = first-none (grantingRefusal (e .«slot_granting_element»)) _ (p .1) in
     (p .0, g .0, first-none (allocationRefusal (e .«chan_alloc_element»)) _ (g .1) .0)
 
-pub power-most : (p : PowerControl) → powerLen p ≤ 5
-power-most PowerControl.Without = lit≤ tt
-power-most (PowerControl.Level v) = lit≤ tt
-
-pub granting-most : (g : SlotGranting) → grantingLen g ≤ 9
-granting-most SlotGranting.Without = lit≤ tt
-granting-most (SlotGranting.Element g) = lit≤ tt
-
-module _ {A : Type 0} (p : Reader A) (a : A) where
-  pub optional-short : {s : List ℕ} {c : Cursor} {o n : ℕ} → Left s c o n → n < 1 → run (optional p a) (drop o (within s c)) o ≡ refused 1 o
-  unfolding optional
-  optional-short e l = rw (starved-alone 1 e l)
-
-  pub optional-clear : {h : List Bool} {o x : ℕ} → Word h o 1 x → x ≡ 0 → run (optional p a) (drop o h) o ≡ got a (drop (o + 1) h) (o + 1)
-  unfolding optional
-  optional-clear {x = x} e z = rw (alone e, eq-eqb x 0 z)
-
-  pub optional-set : {h : List Bool} {o x : ℕ} → Word h o 1 x → (x ≡ 0 → ⊥) → run (optional p a) (drop o h) o ≡ run p (drop (o + 1) h) (o + 1)
-  unfolding optional
-  optional-set {x = x} e z = rw (alone e, ne-eqb x 0 z)
-
--- ---- the elements: how long they are
+-- ---- how long they are
 
 pub power-length : (p : PowerControl) → length (rowBits (powerRow p)) ≡ powerLen p
 power-length PowerControl.Without = length-row (powerRow PowerControl.Without)
@@ -79,28 +54,34 @@ elements-length e =
     let a = allocation-length (e .«chan_alloc_element») in
     simp length-append (omega arith)
 
--- the flags, and the channel allocation behind them where there is one
+pub power-bounds : (p : PowerControl) → (1 ≤ powerLen p) × (powerLen p ≤ 5)
+power-bounds PowerControl.Without = (lit≤ tt, lit≤ tt)
+power-bounds (PowerControl.Level v) = (lit≤ tt, lit≤ tt)
+
+pub granting-bounds : (g : SlotGranting) → (1 ≤ grantingLen g) × (grantingLen g ≤ 9)
+granting-bounds SlotGranting.Without = (lit≤ tt, lit≤ tt)
+granting-bounds (SlotGranting.Element g) = (lit≤ tt, lit≤ tt)
+
+pub allocation-bounds : (a : ChannelAllocation) → (1 ≤ allocationLen a) × (allocationLen a ≤ 28)
+allocation-bounds ChannelAllocation.Without = (lit≤ tt, lit≤ tt)
+allocation-bounds (ChannelAllocation.Element e) = let n = channel-allocation-len e in (omega arith, omega arith)
+
 module _ (e : Elements) where
-  flags-then : elementsBits e ≡ flagsBits e ++ allocationBits (e .«chan_alloc_element»)
-  unfolding elementsBits flagsBits
-  flags-then = simp append-assoc
+  pub elements-bounds : (3 ≤ elementsLen e) × (elementsLen e ≤ 42)
+  elements-bounds =
+      let p = power-bounds (e .«power_control_element») in
+      let g = granting-bounds (e .«slot_granting_element») in
+      let a = allocation-bounds (e .«chan_alloc_element») in
+      (omega arith, omega arith)
 
-  pub flags-alone : e .«chan_alloc_element» ≡ ChannelAllocation.Without → elementsBits e ≡ flagsBits e
-  flags-alone h = flags-then ∙ ap (λ (x : ChannelAllocation). flagsBits e ++ allocationBits x) h ∙ append-nil (flagsBits e)
+  pub flags-bounds : (flagsLen e ≤ 15) × (flagsLen e ≤ elementsLen e)
+  flags-bounds =
+      let p = power-bounds (e .«power_control_element») in
+      let g = granting-bounds (e .«slot_granting_element») in
+      let a = allocation-bounds (e .«chan_alloc_element») in
+      (omega arith, omega arith)
 
-  pub flags-and : (a : ChanAllocElement) → e .«chan_alloc_element» ≡ ChannelAllocation.Element a
-      → (elementsBits e ≡ flagsBits e ++ channelAllocationBits a) × (elementsLen e ≡ flagsLen e + channelAllocationLen a)
-  flags-and a h =
-      (flags-then ∙ ap (λ (x : ChannelAllocation). flagsBits e ++ allocationBits x) h, omega (arith, ap allocationLen h))
-
-pub allocation-least : (a : ChannelAllocation) → 1 ≤ allocationLen a
-allocation-least ChannelAllocation.Without = lit≤ tt
-allocation-least (ChannelAllocation.Element e) = omega arith
-
-pub elements-least : (e : Elements) → flagsLen e ≤ elementsLen e
-elements-least e = omega (arith, allocation-least (e .«chan_alloc_element»))
-
--- ---- the elements: what was written is read back, whatever follows
+-- ---- what was written is read back, whatever follows
 
 optional-zero : {A : Type 0} (p : Reader A) (a : A) (rest : List Bool) (o : ℕ) → run (optional p a) (rowBits (cell 1 0 ∷ []) ++ rest) o ≡ got a rest (o + 1)
 unfolding optional

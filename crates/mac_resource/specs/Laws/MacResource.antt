@@ -1,28 +1,32 @@
--- The whole header: what is known where nothing refuses it, how long it is, and what was written is read back.
+-- The whole header: what is known where nothing refuses it, how long it is, what its first 16 bits say, and what was written is read back.
 use Prim.Native.Nat.{ℕ, zero, suc, _+_, _≤_, _<_}
-use mathlib.Core.Path.{_≡_, refl, sym, ap, _∙_}
-use mathlib.Core.List.{List, [], _∷_, _++_, append-assoc, append-nil}
+use mathlib.Core.Path.{_≡_, refl, _∙_}
+use mathlib.Core.List.{List, [], _∷_, _++_, append-assoc}
 use mathlib.Core.Bool.{Bool, true, false, cond, not}
 use native.Mathlib.Omega.{arith}
-use native.Mathlib.Nat.{add-assoc, add-zero}
+use native.Mathlib.Nat.{zero-add}
 use lib.ListN.{length, length-append}
-use lib.Dec.{eqb, ltb}
-use borrow.Author.Tests.{ltb-true, eqb-false, not-true, lt-leb}
+use lib.Dec.{eqb}
+use borrow.Author.Tests.{eqb-false, not-true, ne-eqb, lt-ltb}
+use Rattle.tetra_core.specs.BitBuffer.{moved}
+use Rattle.tetra_core.specs.Address.{addressType}
 use Rattle.tetra_core.specs.Refusal.{unless, first, first-none, passed}
-use Rattle.tetra_core.specs.Quantity.{octetsOf, octetCount}
-use Rattle.tetra_core.specs.declared.quantity.OctetCount.{OctetCount}
-use Rattle.mac_resource.specs.declared.mac_resource.HeaderLen.{HeaderLen}
-use Rattle.mac_resource.specs.declared.mac_resource.LenAndFill.{LenAndFill}
-use Rattle.codec.specs.Reader.{got, done, run, run-bind}
+use Rattle.tetra_core.specs.declared.address.TetraAddress.{TetraAddress}
+use Rattle.tetra_core.specs.declared.address.TetraAddress.the-variants as Address'
+use Rattle.tetra_core.specs.declared.bitbuffer.Cursor.{Cursor}
+use Rattle.codec.specs.Reader.{got, done, run, _>>=_, run-bind, inside}
 use Rattle.codec.specs.Row.{rowBits, length-row}
-use Rattle.mac_resource.specs.Address.{typeOf, isNull, addressLen, wide, addressRefusal, addressRow, normalAddress}
+use Rattle.codec.specs.Write.{refusalAt, free}
+use Rattle.codec.specs.Back.{written-back}
+use Rattle.mac_resource.specs.Address.{addrTypeNumber, typeOf, isNull, addressLen, wide, addressRefusal, addressRow, normalAddress}
 use Rattle.mac_resource.specs.Fixed.{FixedFits, fixedRow}
 use Rattle.mac_resource.specs.Elements.{readElements, elementsRefusal, elementsBits, elementsLen, normalElements}
-use Rattle.mac_resource.specs.MacResource.{headerOf, nullOf, readMacResource, fixedOf, elementsOf, encryptedRefusal, nullRefusal, fieldsRefusal, addRefusal, macResourceRefusal, headerBits, headerLen, lenOr, lenAndFillOr, normalMacResource}
-use Rattle.mac_resource.specs.Laws.Address.{narrow, address-size, address-back, normal-null}
-use Rattle.mac_resource.specs.Laws.Fixed.{fixed-back}
-use Rattle.mac_resource.specs.Laws.Elements.{elements-length, elements-back}
+use Rattle.mac_resource.specs.MacResource.{headerOf, nullOf, readMacResource, macResourceAt, fixedOf, elementsOf, encryptedRefusal, nullRefusal, fieldsRefusal, addRefusal, macResourceRefusal, headerBits, headerLen, macResourceWritten, normalMacResource}
+use Rattle.mac_resource.specs.Laws.Address.{narrow, address-size, null-is, address-some, address-most, address-back, normal-null}
+use Rattle.mac_resource.specs.Laws.Fixed.{fixed-back, Front, fixed-front}
+use Rattle.mac_resource.specs.Laws.Elements.{elements-length, elements-bounds, elements-back}
 use Rattle.mac_resource.specs.declared.mac_resource.MacResource.{MacResource}
+use Rattle.mac_resource.specs.declared.mac_resource.MacResourceAnswer.{MacResourceAnswer}
 
 -- ---- what is known where nothing refuses it
 
@@ -72,6 +76,22 @@ add-told h e =
     let a = first-none (unless (not (isNull (h .addr))) 9) _ e in
     (not-true _ (passed _ 8 (a .0)), first-none (fieldsRefusal h 0) _ (a .1) .0)
 
+first-over : (j : ℕ) (ns : List ℕ) → first (j ∷ 0 ∷ ns) ≡ first (j ∷ ns)
+unfolding first
+first-over zero ns = refl
+first-over (suc j) ns = refl
+
+-- a header that is not null, with a length of 6 bits, is refused for a length of 0 and then as its fields are
+pub refused-as : (h : MacResource) → isNull (h .addr) ≡ false → h .«length_ind» < 64
+    → macResourceRefusal h ≡ first (unless (not (eqb (h .«length_ind») 0)) 8 ∷ fieldsRefusal h 0 ∷ [])
+unfolding macResourceRefusal nullRefusal
+refused-as h n l = rw (n, lt-ltb _ 64 l, first-over)
+
+-- so it is refused just where an add refuses it
+pub add-same : (h : MacResource) → isNull (h .addr) ≡ false → (h .«length_ind» ≡ 0 → ⊥) → h .«length_ind» < 64 → macResourceRefusal h ≡ addRefusal h
+unfolding addRefusal
+add-same h n z l = rw (refused-as h n l, n, ne-eqb _ 0 z)
+
 pub fixed-of-fits : (h : MacResource) (len : ℕ) (fill : Bool) → fieldsRefusal h 0 ≡ 0 → len < 64 → FixedFits (fixedOf h len fill)
 fixed-of-fits h len fill e l = let t = fields-told h 0 e in record { position = t .position; encryption = t .encryption; len = l }
 
@@ -104,58 +124,95 @@ pub header-whole : (h : MacResource) → isNull (h .addr) ≡ false → headerLe
 unfolding headerLen
 header-whole h n = rw n
 
-pub header-back : (h : MacResource) (len : ℕ) (fill : Bool) → fieldsRefusal h 0 ≡ 0 → len < 64 → (rest : List Bool) (o : ℕ)
-    → run readMacResource (headerBits h len fill ++ rest) o ≡ got (normalMacResource h len fill) rest (o + headerLen h)
-unfolding readMacResource headerBits normalMacResource headerLen
-header-back h len fill e l rest o = go (isNull (h .addr)) refl
-  where
-    t : FieldsTold h 0
-    t = fields-told h 0 e
+-- "16 bits for null, else 29 to 92"
+pub header-null : (h : MacResource) → isNull (h .addr) ≡ true → headerLen h ≡ 16
+unfolding headerLen
+header-null h n = rw (n, null-is (h .addr) n)
 
-    f : FixedFits (fixedOf h len fill)
-    f = fixed-of-fits h len fill e l
+pub header-bounds : (h : MacResource) → isNull (h .addr) ≡ false → (29 ≤ headerLen h) × (headerLen h ≤ 92)
+header-bounds h n =
+    let e = elements-bounds (elementsOf h) in
+    let w = header-whole h n in
+    (omega (arith, address-some (h .addr) n .1), omega (arith, address-most (typeOf (h .addr))))
 
-    go : (b : Bool) → isNull (h .addr) ≡ b
-        → run readMacResource (headerBits h len fill ++ rest) o ≡ got (normalMacResource h len fill) rest (o + headerLen h)
-    go true n =
-        let sum : o + 16 + addressLen (typeOf (h .addr)) ≡ o + (16 + addressLen (typeOf (h .addr)) + 0) = omega arith in
-        rw (
-          append-assoc,
-          run-bind,
-          fixed-back (fixedOf h len fill) f _ o,
-          append-assoc,
-          run-bind,
-          address-back (h .addr) (t .address) _ (o + 16),
-          normal-null (h .addr),
-          n,
-          sum,
-        )
-    go false n =
-        let sum : o + 16 + addressLen (typeOf (h .addr)) + elementsLen (elementsOf h) ≡ o + (16 + addressLen (typeOf (h .addr)) + elementsLen (elementsOf h)) = omega arith in
-        rw (
-          append-assoc,
-          run-bind,
-          fixed-back (fixedOf h len fill) f _ o,
-          append-assoc,
-          run-bind,
-          address-back (h .addr) (t .address) _ (o + 16),
-          normal-null (h .addr),
-          n,
-          run-bind readElements (λ x. done (headerOf (fixedOf h len fill) (normalAddress (h .addr)) x)) (elementsBits (elementsOf h) ++ rest) (o + 16 + addressLen (typeOf (h .addr))),
-          elements-back (elementsOf h) (rw n at (t .elements)) rest _,
-          sum,
-        )
+-- ---- where a PDU ends is said in its first 16 bits
 
--- ---- the ends of the calls that count
+pub type-number : (a : TetraAddress) → addrTypeNumber (typeOf a) ≡ addressType a
+type-number Address'.NullPdu = refl
+type-number (Address'.Ssi k v) = refl
+type-number (Address'.EventLabel l) = refl
+type-number (Address'.Ussi v) = refl
+type-number (Address'.Smi v) = refl
+type-number (Address'.SsiAndEventLabel k v l) = refl
+type-number (Address'.SsiAndUsageMarker k v m) = refl
+type-number (Address'.SmiAndEventLabel v l) = refl
 
-pub len-refused : (r j n : ℕ) → r ≡ j → (r ≡ 0 → ⊥) → HeaderLen.Refused r ≡ lenOr j n
-len-refused r zero n e z = absurd (z e)
-len-refused r (suc j) n e z = rw e
+-- the type is 0, the length is the one given, and the address type is the address's, which is 0 for null alone (address-some)
+pub header-front : (h : MacResource) (len : ℕ) (fill : Bool) → len < 64 → (rest : List Bool) → Front (headerBits h len fill ++ rest) len (addressType (h .addr))
+unfolding headerBits
+header-front h len fill l rest = rw (append-assoc, ← type-number (h .addr)) (fixed-front (fixedOf h len fill) l _)
 
-pub len-and-fill-refused : (r j : ℕ) (n : OctetCount) → r ≡ j → (r ≡ 0 → ⊥) → LenAndFill.Refused r ≡ lenAndFillOr j n
-len-and-fill-refused r zero n e z = absurd (z e)
-len-and-fill-refused r (suc j) n e z = rw e
+-- ---- what was written is read back, whatever follows
 
-pub octets-over : (n : ℕ) → 488 < n → octetCount n ≡ OctetCount.Refused 8
-unfolding octetCount
-octets-over n h = rw (lt-leb (octetsOf n) 61 (omega arith))
+module _ (h : MacResource) (len : ℕ) (fill : Bool) (e : fieldsRefusal h 0 ≡ 0) (l : len < 64) where
+  after : ℕ → ℕ
+  after o = o + 16 + addressLen (typeOf (h .addr))
+
+  tail : List Bool
+  tail = cond (isNull (h .addr)) [] (elementsBits (elementsOf h))
+
+  -- behind the address
+  behind : (rest : List Bool) (o : ℕ)
+      → run readMacResource (headerBits h len fill ++ rest) o
+      ≡ cond (isNull (h .addr))
+      (got (nullOf len) (tail ++ rest) (after o))
+      (run (readElements >>= λ x. done (headerOf (fixedOf h len fill) (normalAddress (h .addr)) x)) (tail ++ rest) (after o))
+  unfolding readMacResource headerBits after tail
+  behind rest o =
+      rw (
+        append-assoc,
+        run-bind,
+        fixed-back (fixedOf h len fill) (fixed-of-fits h len fill e l) _ o,
+        append-assoc,
+        run-bind,
+        address-back (h .addr) (fields-told h 0 e .address) _ (o + 16),
+        normal-null (h .addr),
+      )
+
+  pub header-back : (rest : List Bool) (o : ℕ)
+      → run readMacResource (headerBits h len fill ++ rest) o ≡ got (normalMacResource h len fill) rest (o + headerLen h)
+  unfolding normalMacResource headerLen after tail
+  header-back rest o = behind rest o ∙ go (isNull (h .addr)) refl
+    where
+      go : (b : Bool) → isNull (h .addr) ≡ b
+          → cond b
+          (got (nullOf len) (cond b [] (elementsBits (elementsOf h)) ++ rest) (after o))
+          (run (readElements >>= λ x. done (headerOf (fixedOf h len fill) (normalAddress (h .addr)) x)) (cond b [] (elementsBits (elementsOf h)) ++ rest) (after o))
+          ≡ got (cond b (nullOf len) (headerOf (fixedOf h len fill) (normalAddress (h .addr)) (normalElements (elementsOf h)))) rest
+          (o + (16 + addressLen (typeOf (h .addr)) + cond b 0 (elementsLen (elementsOf h))))
+      go true n =
+          let sum : after o ≡ o + (16 + addressLen (typeOf (h .addr)) + 0) = omega arith in
+          rw sum
+      go false n =
+          let sum : after o + elementsLen (elementsOf h) ≡ o + (16 + addressLen (typeOf (h .addr)) + elementsLen (elementsOf h)) = omega arith in
+          run-bind readElements (λ x. done (headerOf (fixedOf h len fill) (normalAddress (h .addr)) x)) (elementsBits (elementsOf h) ++ rest) (after o)
+          ∙ rw (elements-back (elementsOf h) (rw n at (fields-told h 0 e .elements)) rest (after o), sum)
+
+-- with the fill flag that it was written with
+pub header-fill : (h : MacResource) (len : ℕ) (fill : Bool) → isNull (h .addr) ≡ false → (normalMacResource h len fill) .«fill_bits» ≡ fill
+unfolding normalMacResource
+header-fill h len fill n = rw n
+
+-- a header that is read ends inside the bits that it is read from
+pub header-inside : (bs : List Bool) {h : MacResource} {r : List Bool} {n : ℕ} → run readMacResource bs 0 ≡ got h r n → n ≤ length bs
+header-inside bs e = omega (arith, (rw e at (inside readMacResource bs 0)) .1)
+
+-- in bytes: what to_bitbuf wrote, from_bitbuf reads at the same cursor
+pub mac-resource-written-back : (s : List ℕ) (c : Cursor) (h : MacResource) → refusalAt (length s) c (macResourceRefusal h) (headerLen h) ≡ 0
+    → macResourceAt (macResourceWritten s c h) c
+    ≡ record { cursor = moved c (headerLen h); answer = MacResourceAnswer.Read (normalMacResource h (h .«length_ind») (h .«fill_bits»)) }
+unfolding macResourceAt
+mac-resource-written-back s c h e =
+    let t = told h (free _ _ _ _ e .value) in
+    written-back readMacResource _ _ _ s c (macResourceRefusal h) (headerBits h (h .«length_ind») (h .«fill_bits»)) (header-length h _ _)
+    (λ rest. rw zero-add at (header-back h (h .«length_ind») (h .«fill_bits») (t .fields) (t .small) rest 0)) e

@@ -2,7 +2,7 @@ use mathlib.Core.Path.{_∙_, sym}
 use native.Mathlib.Omega.{arith}
 use borrow.Author.Needs.{needs}
 use Rattle.mac_resource.specs.Address.{readAddress}
-use Rattle.mac_resource.specs.Laws.Address.{address-none, address-fed, address-starved}
+use Rattle.mac_resource.proofs.Words.{address-none, address-fed, address-starved}
 use Rattle.mac_resource.proofs.address.read_address.Statement.{statement}
 use Rattle.mac_resource.proofs.address.read_address.Tie as tie
 

@@ -1,7 +1,7 @@
 use native.Mathlib.Omega.{arith}
 use borrow.Author.Needs.{needs}
 use Rattle.mac_resource.specs.Elements.{flagsBits}
-use Rattle.mac_resource.specs.Laws.Elements.{elements-told, power-most, granting-most}
+use Rattle.mac_resource.specs.Laws.Elements.{elements-told, granting-bounds, flags-bounds}
 use Rattle.mac_resource.proofs.Pieces.{join-holds}
 use Rattle.mac_resource.proofs.elements.flags_piece.Statement.{statement}
 use Rattle.mac_resource.proofs.elements.flags_piece.Tie as tie
@@ -13,7 +13,7 @@ joined-requires : tie.Need-joined-requires
 joined-requires c κs =
     let g = c .before .granting-piece .ensures in
     let f = c .flag-piece .ensures in
-    (g .small, f .small, omega (arith, granting-most (c .before .before .args .e .«slot_granting_element»)))
+    (g .small, f .small, omega (arith, granting-bounds (c .before .before .args .e .«slot_granting_element») .1))
 
 power-piece-requires : tie.Need-power-piece-requires
 power-piece-requires c κs = let d = c .before .before .before in elements-told (d .args .e) (d .pre) .0
@@ -25,7 +25,7 @@ joined-requires-2 c κs =
     let f = c .before .before in
     let g = f .before in
     let d = g .before .args .e in
-    (p .small, j .small, omega (arith, g .granting-piece .ensures, power-most (d .«power_control_element»), granting-most (d .«slot_granting_element»)))
+    (p .small, j .small, omega (arith, g .granting-piece .ensures, flags-bounds d .0))
 
 returns : tie.Need-returns
 unfolding flagsBits

@@ -4,8 +4,8 @@ use mathlib.Core.Path.{ap, _∙_}
 use lib.ListN.{length}
 use Rattle.tetra_core.specs.Laws.Writes.{length-putBits}
 use Rattle.tetra_fields.specs.ChannelAllocation.{channelAllocationBits}
-use Rattle.mac_resource.specs.Laws.Elements.{elements-told, power-most, granting-most, flags-alone, flags-and, elements-least}
-use Rattle.mac_resource.proofs.Pieces.{put-first, put-then}
+use Rattle.mac_resource.specs.Laws.Elements.{elements-told, flags-bounds}
+use Rattle.mac_resource.proofs.Pieces.{flags-alone, flags-and, put-first, put-then}
 use Rattle.mac_resource.proofs.elements.put_elements.Statement.{statement}
 use Rattle.mac_resource.proofs.elements.put_elements.Tie as tie
 
@@ -13,8 +13,8 @@ put-bits-requires : tie.Need-put-bits-requires
 put-bits-requires c κs = let f = c .before .flags-piece .ensures in
     let d = c .before .before .before in
     let e = d .args .e in
-    let l = elements-least e in
-    (omega arith, omega (arith, power-most (e .«power_control_element»), granting-most (e .«slot_granting_element»)), omega arith, f .small)
+    let l = flags-bounds e in
+    (omega arith, omega arith, omega arith, f .small)
 
 returns : tie.Need-returns
 returns c =
@@ -39,7 +39,7 @@ returns-2 c =
     let p = c .before .before .before .before .before .before .before .before .before in
     let f = p .before .before .flags-piece .ensures in
     let d = p .before .before .before .before in
-    let l = elements-least (d .args .e) in
+    let l = flags-bounds (d .args .e) in
     rw (flags-and (d .args .e) (a .0 .0) (a .1) .0)
     (put-then _ _ f (p .put-bits .ensures) (channelAllocationBits (a .0 .0)) (omega arith) (c .before .before .put-channel-allocation .ensures))
 

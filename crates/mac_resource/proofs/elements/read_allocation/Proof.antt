@@ -2,7 +2,7 @@ use borrow.Author.Needs.{needs}
 use Rattle.codec.specs.Header.{read}
 use Rattle.codec.specs.Reader.{run-bind}
 use Rattle.mac_resource.specs.Elements.{allocationElement, readAllocation}
-use Rattle.mac_resource.specs.Laws.Elements.{optional-short, optional-clear, optional-set}
+use Rattle.mac_resource.proofs.Words.{optional-short, optional-clear, optional-set}
 use Rattle.mac_resource.specs.declared.elements.ChannelAllocation.{ChannelAllocation}
 use Rattle.mac_resource.proofs.elements.read_allocation.Statement.{statement}
 use Rattle.mac_resource.proofs.elements.read_allocation.Tie as tie

@@ -2,7 +2,7 @@ use borrow.Author.Needs.{needs}
 use Rattle.codec.specs.Header.{read}
 use Rattle.codec.specs.Reader.{run-bind}
 use Rattle.mac_resource.specs.Elements.{grantingElement, readGranting}
-use Rattle.mac_resource.specs.Laws.Elements.{optional-short, optional-clear, optional-set}
+use Rattle.mac_resource.proofs.Words.{optional-short, optional-clear, optional-set}
 use Rattle.mac_resource.specs.declared.elements.SlotGranting.{SlotGranting}
 use Rattle.mac_resource.proofs.elements.read_granting.Statement.{statement}
 use Rattle.mac_resource.proofs.elements.read_granting.Tie as tie

@@ -2,7 +2,7 @@ use borrow.Author.Needs.{needs}
 use native.Mathlib.Omega.{arith}
 use Rattle.codec.specs.Header.{alone, starved-alone, left-on}
 use Rattle.mac_resource.specs.Elements.{powerElement, readPower}
-use Rattle.mac_resource.specs.Laws.Elements.{optional-short, optional-clear, optional-set}
+use Rattle.mac_resource.proofs.Words.{optional-short, optional-clear, optional-set}
 use Rattle.mac_resource.specs.declared.elements.PowerControl.{PowerControl}
 use Rattle.mac_resource.proofs.elements.read_power.Statement.{statement}
 use Rattle.mac_resource.proofs.elements.read_power.Tie as tie
