@@ -1,12 +1,15 @@
 pub mod Lists
+pub mod LastOnes
 pub mod Frames
 pub mod Walks
 pub mod Covering
 pub mod Own
 pub mod Isolation
 pub mod Blocks
+pub mod Stepping
 pub mod Held
 pub mod Altered
+pub mod Puts
 pub mod Refusals
 pub mod WrittenBack
 pub mod Calls

@@ -13,11 +13,13 @@ use Rattle.tetra_core.specs.Bits.{odd, val, bitsOfNat, bitsOf, pack, splice, bi
 use Rattle.tetra_core.specs.Refusal.{first}
 use Rattle.tetra_core.specs.Laws.Values.{val-bitsOfNat}
 use Rattle.codec.specs.Reader.{Out, got, refused}
-use Rattle.mac_block.specs.Frame.{field, Frame, countedFrame, resourceFrame, frameOf, frame}
+use Rattle.mac_block.specs.declared.frame.Frame.{Frame}
+use Rattle.mac_block.specs.Frame.{field, countedFrame, resourceFrame, frameOf, frame}
 use Rattle.mac_block.specs.Codec.{Codec, Laws}
 use Rattle.mac_block.specs.Read.{Reading, extend, beforeLastOne, behindHeader, readOwn, readPdu}
 use Rattle.mac_block.specs.Walk.{goodBlock, Pdu, stepOf, pduOf, firstPdu, stepAt, step, Walk, goOn, follow, walkBy, walkFrom, walk}
-use Rattle.mac_block.specs.Writer.{LengthIndication, lengthOf, pduSize, flagOf, fillBits, nullBits, finishBits, goodBit, after, finishRefusal, finished, finishTo, addCheck, addRefusal, addBits, addedBits, added, addTo}
+use Rattle.mac_block.specs.declared.writer.LengthIndication.{LengthIndication}
+use Rattle.mac_block.specs.Writer.{lengthOf, pduSize, flagOf, fillBits, nullBits, finishBits, goodBit, after, finishRefusal, finished, finishTo, addCheck, addRefusal, addBits, addedBits, added, addTo}
 use Rattle.mac_block.specs.Run.{Call, start, perform, run}
 use Rattle.mac_block.specs.Demand3.{Demand3}
 use Rattle.mac_block.proofs.Lists.{cond-ind}
@@ -108,12 +110,12 @@ adds i k = Call.add (record { header = record { len = 0; fill = false }; indicat
 -- and the four bits past 124 keep their values
 calls : List (Call Toy)
 calls =
-    adds LengthIndication.counted 0
-    ∷ adds LengthIndication.counted 446
-    ∷ adds LengthIndication.mark62 34
-    ∷ adds LengthIndication.mark63 481
+    adds LengthIndication.Counted 0
+    ∷ adds LengthIndication.Counted 446
+    ∷ adds LengthIndication.Mark62 34
+    ∷ adds LengthIndication.Mark63 481
     ∷ Call.finish
-    ∷ adds LengthIndication.mark63 0
+    ∷ adds LengthIndication.Mark63 0
     ∷ Call.finish
     ∷ []
 
@@ -126,7 +128,7 @@ written-listing = refl
 
 -- the walk of 268 bits with one PDU of k bits of content
 abbrev oneOf : ℕ → Walk Toy
-oneOf k = walk toy (run toy 268 (adds LengthIndication.counted k ∷ Call.finish ∷ []) (start (replicate 34 0)) .bytes) 268
+oneOf k = walk toy (run toy 268 (adds LengthIndication.Counted k ∷ Call.finish ∷ []) (start (replicate 34 0)) .bytes) 268
 
 abbrev whole : ℕ → Bool → ℕ → Walk Toy
 whole k f fill =
@@ -139,6 +141,6 @@ case-9 : (oneOf 225 ≡ whole 225 false 0) × (oneOf 224 ≡ whole 224 true 1)
 unfolding toyRead toyBits run perform addTo added addRefusal addCheck addBits addedBits finishTo finished finishRefusal finishBits nullBits fillBits goodBit goodBlock pduSize lengthOf flagOf after first walk walkFrom walkBy follow goOn step stepAt stepOf firstPdu pduOf frame frameOf resourceFrame countedFrame field readPdu readOwn behindHeader beforeLastOne extend val bitsOf bitsOfNat odd bitsAt putBits pack splice
 case-9 = (refl, refl)
 
-case-10 : (resourceFrame 268 34 ≡ Frame.sized 268) × (resourceFrame 268 35 ≡ Frame.unsized 8 7)
+case-10 : (resourceFrame 268 34 ≡ Frame.Sized 268) × (resourceFrame 268 35 ≡ Frame.Unsized 8 7)
 unfolding resourceFrame countedFrame
 case-10 = (refl, refl)
