@@ -16,5 +16,8 @@ pub fn good_block(bits: usize, len: usize) -> bool
     if MOST_BITS < bits {
         return false;
     }
-    (bits + 7) / 8 <= len
+    if len < (bits + 7) / 8 {
+        return false;
+    }
+    true
 }

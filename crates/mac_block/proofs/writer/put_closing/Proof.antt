@@ -1,52 +1,35 @@
+use native.Mathlib.Omega.{arith}
 use borrow.Author.Needs.{needs}
+use borrow.Author.Tests.{lt-ltb, le-ltb}
+use Rattle.tetra_core.specs.Laws.Values.{length-bitsOfNat}
+use Rattle.mac_block.specs.Writer.{finishBits, nullBits}
+use Rattle.mac_block.proofs.Puts.{put-behind}
 use Rattle.mac_block.proofs.writer.put_closing.Statement.{statement}
 use Rattle.mac_block.proofs.writer.put_closing.Tie as tie
-use Rattle.mac_block.proofs.writer.put_closing.Reads as reads
-use Rattle.mac_block.proofs.writer.put_closing.Lts as lts
-use Rattle.mac_block.proofs.fill.put_fill.Reads as put-fill-reads
-use Rattle.tetra_core.proofs.word.put_bits.Reads as put-bits-reads
 
--- src/writer.rt:62:9
-put-fill-requires : tie.Need-put-fill-requires
-put-fill-requires c κs = search needs
-
--- src/writer.rt:63:9
-same-length : tie.Need-same-length
-same-length c = search needs
-
--- src/writer.rt:63:9
 returns : tie.Need-returns
-returns c = ?
+unfolding finishBits
+returns c =
+    let p = c .before .before in
+    rw (lt-ltb _ _ (p .before .before .if1 .taken)) (p .put-fill .ensures)
 
--- src/writer.rt:65:5
-put-bits-requires : tie.Need-put-bits-requires
-put-bits-requires c κs = search needs
-
--- src/writer.rt:66:23
-add-put-fill : tie.Need-add-put-fill
-add-put-fill c = search needs
-
--- src/writer.rt:66:5
-put-fill-requires-2 : tie.Need-put-fill-requires-2
-put-fill-requires-2 c κs = search needs
-
--- src/writer.rt:57:1
-same-length-2 : tie.Need-same-length-2
-same-length-2 c = search needs
-
--- src/writer.rt:57:1
 returns-2 : tie.Need-returns-2
-returns-2 c = ?
+unfolding finishBits nullBits
+returns-2 c =
+    let f = c .before .before in
+    let p = f .before .before .before .before in
+    let o = p .before .before in
+    rw (le-ltb _ _ (o .if1 .left), f .put-fill2 .ensures, p .put-bits .ensures) (put-behind _ _ 16 _ _ (length-bitsOfNat 16 _) (omega arith))
 
 pub put-closing-spec : {M : Type 1} → statement M
 put-closing-spec =
     tie.close
     (tie.spec
-    put-fill-requires
-    same-length
+    (λ c κs. search needs)
+    (λ c. search needs)
     returns
-    put-bits-requires
-    add-put-fill
-    put-fill-requires-2
-    same-length-2
+    (λ c κs. search needs)
+    (λ c. search needs)
+    (λ c κs. search needs)
+    (λ c. search needs)
     returns-2)
