@@ -9,6 +9,7 @@ pub mod Blocks
 pub mod Stepping
 pub mod Held
 pub mod Altered
+pub mod Sizes
 pub mod Puts
 pub mod Refusals
 pub mod WrittenBack

@@ -1,13 +1,17 @@
 // The writer of a block. Each call gets the bytes and the bit that the last one left.
 use crate::fill;
 use tetra_core::bitbuffer::Outcome;
+use tetra_core::quantity;
+use tetra_core::quantity::OctetCount;
+use tetra_core::quantity::Octets;
 use tetra_core::refusal;
 use tetra_core::word;
 ghost use mathlib.Core.Path.{_≡_};
-ghost use Prim.Native.Nat.{_+_, _*_, _≤_};
+ghost use Prim.Native.Nat.{_+_, _*_, _≤_, _<_};
 ghost use lib.ListN.{length};
 ghost use Rattle.tetra_core.specs.Bits.{putBits};
-ghost use Rattle.mac_block.specs.Writer.{goodBit, writerAt, finishBits, finishRefusal, finishTo, finishAnswer};
+ghost use Rattle.tetra_core.specs.Quantity.{octetsOf};
+ghost use Rattle.mac_block.specs.Writer.{lengthOf, pduSize, goodBit, writerAt, finishBits, finishRefusal, finishTo, finishAnswer};
 
 // The length that a PDU is written with: its octets, or a mark that it takes the rest of the block.
 pub enum LengthIndication {
@@ -38,6 +42,45 @@ fn good_bit(bits: usize, bit: usize) -> bool
         return true;
     }
     bit % 8 == 0
+}
+
+// The octets of a PDU of so many bits of header and content.
+fn octets_of(total: usize) -> Octets
+    requires { ⌜ total ≤ 488 ⌝ }
+    ensures { λ r. ⌜ (r .0 ≡ octetsOf total) × (r .0 ≤ 61) ⌝ }
+{
+    match quantity::count_octets(total) {
+        OctetCount::Counted(octets, _) => octets,
+        // No more than 61 octets are asked for.
+        OctetCount::Refused(_) => Octets(0),
+    }
+}
+
+// The length field of a PDU of so many bits of header and content.
+fn length_of(indication: LengthIndication, total: usize) -> u8
+    requires { ⌜ total ≤ 488 ⌝ }
+    ensures { λ r. ⌜ (r ≡ lengthOf indication total) × (r < 64) ⌝ }
+{
+    match indication {
+        LengthIndication::Counted => octets_of(total).0,
+        LengthIndication::Mark62 => 62,
+        LengthIndication::Mark63 => 63,
+    }
+}
+
+// The bits that it takes up where left bits are left to the block's end.
+fn pdu_size(indication: LengthIndication, left: usize, total: usize) -> usize
+    requires { ⌜ total ≤ 488 ⌝ }
+    ensures { λ r. ⌜ r ≡ pduSize indication left total ⌝ }
+{
+    match indication {
+        LengthIndication::Counted => {
+            let bits = quantity::octets_to_bits(octets_of(total)).0 as usize;
+            word::least(bits, left)
+        }
+        LengthIndication::Mark62 => left,
+        LengthIndication::Mark63 => left,
+    }
 }
 
 // Why a block is not finished, or 0.
