@@ -1,0 +1,5 @@
+-- The laws of MAC-RESOURCE that other crates cite.
+pub mod Address
+pub mod Fixed
+pub mod Elements
+pub mod MacResource

@@ -1,0 +1,6 @@
+pub mod Piece
+pub mod Address
+pub mod Fixed
+pub mod Elements
+pub mod MacResource
+pub mod Laws

@@ -1,0 +1,346 @@
+// Clause 21.4.3.1, the optional elements: power control, slot granting and channel allocation, each behind a flag of its own.
+use crate::piece;
+use crate::piece::Piece;
+use tetra_core::bitbuffer::Cursor;
+use tetra_core::refusal;
+use tetra_core::refusal::Refusal;
+use tetra_core::word;
+use tetra_fields::fields::basic_slotgrant;
+use tetra_fields::fields::basic_slotgrant::BasicSlotgrant;
+use tetra_fields::fields::basic_slotgrant::SlotgrantPart;
+use tetra_fields::fields::channel_allocation;
+use tetra_fields::fields::channel_allocation::ChanAllocElement;
+use tetra_fields::fields::channel_allocation::ChannelAllocationPart;
+ghost use mathlib.Core.Path.{_≡_};
+ghost use Prim.Native.Nat.{_+_, _*_, _≤_};
+ghost use lib.ListN.{length};
+ghost use Rattle.tetra_core.specs.Bits.{putBits};
+ghost use Rattle.tetra_core.specs.Laws.Windows.{Good};
+ghost use Rattle.codec.specs.Header.{within, Reads};
+ghost use Rattle.codec.specs.Row.{rowBits};
+ghost use Rattle.mac_resource.specs.Piece.{Holds};
+ghost use Rattle.mac_resource.specs.Elements.{readPower, powerOut, readGranting, grantingOut, readAllocation, allocationOut, readElements, elementsOut, powerRefusal, grantingRefusal, allocationRefusal, elementsRefusal, powerLen, grantingLen, allocationLen, elementsLen, allocationLenRefusal, powerRow, grantingRow, flagRow, flagsBits, flagsLen, elementsBits};
+
+pub enum PowerControl {
+    Without,
+    // 4
+    Level(u8),
+}
+
+pub enum SlotGranting {
+    Without,
+    // 8
+    Element(BasicSlotgrant),
+}
+
+pub enum ChannelAllocation {
+    Without,
+    // 25 or 27
+    Element(ChanAllocElement),
+}
+
+pub struct Elements {
+    pub power_control_element: PowerControl,
+    pub slot_granting_element: SlotGranting,
+    pub chan_alloc_element: ChannelAllocation,
+}
+
+// Each as a part of a header, and the offset after it.
+pub enum PowerPart {
+    Read(PowerControl, usize),
+    Refused(Refusal),
+}
+
+pub enum GrantingPart {
+    Read(SlotGranting, usize),
+    Refused(Refusal),
+}
+
+pub enum AllocationPart {
+    Read(ChannelAllocation, usize),
+    Refused(Refusal),
+}
+
+pub enum ElementsPart {
+    Read(Elements, usize),
+    Refused(Refusal),
+}
+
+// The power control flag at the offset o of a header, and the element where it is set.
+fn read_power(s: &[u8], c: Cursor, o: usize) -> PowerPart
+    requires { ⌜ Good (length (now s)) c ⌝ }
+    ensures { λ r. ⌜ Reads powerOut readPower (within (now (s .entry)) c) o r ⌝ }
+{
+    let left = codec::left(s, c, o);
+    if left < 1 {
+        return PowerPart::Refused(Refusal {
+            number: refusal::READ_PAST_END,
+            bit: o,
+        });
+    }
+    let flag = codec::word(s, c, o, 1);
+    let o1 = o + 1;
+    if flag == 0 {
+        return PowerPart::Read(PowerControl::Without, o1);
+    }
+    if left < 5 {
+        return PowerPart::Refused(Refusal {
+            number: refusal::READ_PAST_END,
+            bit: o1,
+        });
+    }
+    let level = codec::word(s, c, o1, 4);
+    PowerPart::Read(PowerControl::Level(level as u8), o1 + 4)
+}
+
+// The slot granting flag at the offset o of a header, and the element where it is set.
+fn read_granting(s: &[u8], c: Cursor, o: usize) -> GrantingPart
+    requires { ⌜ Good (length (now s)) c ⌝ }
+    ensures { λ r. ⌜ Reads grantingOut readGranting (within (now (s .entry)) c) o r ⌝ }
+{
+    if codec::left(s, c, o) < 1 {
+        return GrantingPart::Refused(Refusal {
+            number: refusal::READ_PAST_END,
+            bit: o,
+        });
+    }
+    let flag = codec::word(s, c, o, 1);
+    let o1 = o + 1;
+    if flag == 0 {
+        return GrantingPart::Read(SlotGranting::Without, o1);
+    }
+    match basic_slotgrant::read_slotgrant(s, c, o1) {
+        SlotgrantPart::Read(g, n) => GrantingPart::Read(SlotGranting::Element(g), n),
+        SlotgrantPart::Refused(r) => GrantingPart::Refused(r),
+    }
+}
+
+// The channel allocation flag at the offset o of a header, and the element where it is set.
+fn read_allocation(s: &[u8], c: Cursor, o: usize) -> AllocationPart
+    requires { ⌜ Good (length (now s)) c ⌝ }
+    ensures { λ r. ⌜ Reads allocationOut readAllocation (within (now (s .entry)) c) o r ⌝ }
+{
+    if codec::left(s, c, o) < 1 {
+        return AllocationPart::Refused(Refusal {
+            number: refusal::READ_PAST_END,
+            bit: o,
+        });
+    }
+    let flag = codec::word(s, c, o, 1);
+    let o1 = o + 1;
+    if flag == 0 {
+        return AllocationPart::Read(ChannelAllocation::Without, o1);
+    }
+    match channel_allocation::read_channel_allocation(s, c, o1) {
+        ChannelAllocationPart::Read(e, n) => {
+            AllocationPart::Read(ChannelAllocation::Element(e), n)
+        }
+        ChannelAllocationPart::Refused(r) => AllocationPart::Refused(r),
+    }
+}
+
+// The three flags at the offset o of a header, one by one, each with its element.
+fn read_each(s: &[u8], c: Cursor, o: usize) -> ElementsPart
+    requires { ⌜ Good (length (now s)) c ⌝ }
+    ensures { λ r. ⌜ Reads elementsOut readElements (within (now (s .entry)) c) o r ⌝ }
+{
+    match read_power(s, c, o) {
+        PowerPart::Refused(r) => ElementsPart::Refused(r),
+        PowerPart::Read(power_control_element, o1) => match read_granting(s, c, o1) {
+            GrantingPart::Refused(r) => ElementsPart::Refused(r),
+            GrantingPart::Read(slot_granting_element, o2) => match read_allocation(s, c, o2) {
+                AllocationPart::Refused(r) => ElementsPart::Refused(r),
+                AllocationPart::Read(chan_alloc_element, o3) => ElementsPart::Read(
+                    Elements {
+                        power_control_element,
+                        slot_granting_element,
+                        chan_alloc_element,
+                    },
+                    o3,
+                ),
+            },
+        },
+    }
+}
+
+// The elements at the offset o of a header. Most headers have none: then the three flags are one word.
+pub fn read_elements(s: &[u8], c: Cursor, o: usize) -> ElementsPart
+    requires { ⌜ Good (length (now s)) c ⌝ }
+    ensures { λ r. ⌜ Reads elementsOut readElements (within (now (s .entry)) c) o r ⌝ }
+{
+    if codec::left(s, c, o) < 3 {
+        return read_each(s, c, o);
+    }
+    if codec::word(s, c, o, 3) != 0 {
+        return read_each(s, c, o);
+    }
+    ElementsPart::Read(
+        Elements {
+            power_control_element: PowerControl::Without,
+            slot_granting_element: SlotGranting::Without,
+            chan_alloc_element: ChannelAllocation::Without,
+        },
+        o + 3,
+    )
+}
+
+// Why an element is not written, or 0.
+fn power_refusal(p: PowerControl) -> u8
+    ensures { λ r. ⌜ r ≡ powerRefusal p ⌝ }
+{
+    match p {
+        PowerControl::Without => 0,
+        PowerControl::Level(v) => {
+            if v < 16 {
+                return 0;
+            }
+            refusal::VALUE_TOO_WIDE
+        }
+    }
+}
+
+fn granting_refusal(g: SlotGranting) -> u8
+    ensures { λ r. ⌜ r ≡ grantingRefusal g ⌝ }
+{
+    match g {
+        SlotGranting::Without => 0,
+        SlotGranting::Element(e) => basic_slotgrant::slotgrant_refusal(e),
+    }
+}
+
+fn allocation_refusal(a: ChannelAllocation) -> u8
+    ensures { λ r. ⌜ r ≡ allocationRefusal a ⌝ }
+{
+    match a {
+        ChannelAllocation::Without => 0,
+        ChannelAllocation::Element(e) => channel_allocation::channel_allocation_refusal(e),
+    }
+}
+
+pub fn elements_refusal(e: Elements) -> u8
+    ensures { λ r. ⌜ r ≡ elementsRefusal e ⌝ }
+{
+    let power = e.power_control_element;
+    let granting = e.slot_granting_element;
+    let allocation = e.chan_alloc_element;
+    let number = power_refusal(power);
+    if number != 0 {
+        return number;
+    }
+    let number = granting_refusal(granting);
+    if number != 0 {
+        return number;
+    }
+    allocation_refusal(allocation)
+}
+
+// The bits of each flag with its element.
+fn power_len(p: PowerControl) -> usize
+    ensures { λ r. ⌜ (r ≡ powerLen p) × (r ≤ 5) ⌝ }
+{
+    match p {
+        PowerControl::Without => 1,
+        PowerControl::Level(_) => 5,
+    }
+}
+
+fn granting_len(g: SlotGranting) -> usize
+    ensures { λ r. ⌜ (r ≡ grantingLen g) × (r ≤ 9) ⌝ }
+{
+    match g {
+        SlotGranting::Without => 1,
+        SlotGranting::Element(_) => 9,
+    }
+}
+
+fn allocation_len(a: ChannelAllocation) -> usize
+    ensures { λ r. ⌜ (r ≡ allocationLen a) × (r ≤ 28) ⌝ }
+{
+    match a {
+        ChannelAllocation::Without => 1,
+        ChannelAllocation::Element(e) => 1 + channel_allocation::allocation_len(e),
+    }
+}
+
+pub fn elements_len(e: Elements) -> usize
+    ensures { λ r. ⌜ (r ≡ elementsLen e) × (r ≤ 42) ⌝ }
+{
+    let power = e.power_control_element;
+    let granting = e.slot_granting_element;
+    let allocation = e.chan_alloc_element;
+    power_len(power) + granting_len(granting) + allocation_len(allocation)
+}
+
+// Why the length of a channel allocation is not counted, or 0.
+pub fn allocation_len_refusal(a: ChannelAllocation) -> u8
+    ensures { λ r. ⌜ r ≡ allocationLenRefusal a ⌝ }
+{
+    match a {
+        ChannelAllocation::Without => 0,
+        ChannelAllocation::Element(e) => channel_allocation::len_refusal(e),
+    }
+}
+
+// The bits of each flag with its element, but for a channel allocation, which may be longer than a word.
+fn power_piece(p: PowerControl) -> Piece
+    requires { ⌜ powerRefusal p ≡ 0 ⌝ }
+    ensures { λ r. ⌜ Holds (rowBits (powerRow p)) (powerLen p) r ⌝ }
+{
+    match p {
+        PowerControl::Without => Piece { value: 0, bits: 1 },
+        PowerControl::Level(v) => Piece {
+            value: 1 * 16 + v as u64,
+            bits: 5,
+        },
+    }
+}
+
+fn granting_piece(g: SlotGranting) -> Piece
+    requires { ⌜ grantingRefusal g ≡ 0 ⌝ }
+    ensures { λ r. ⌜ Holds (rowBits (grantingRow g)) (grantingLen g) r ⌝ }
+{
+    match g {
+        SlotGranting::Without => Piece { value: 0, bits: 1 },
+        SlotGranting::Element(e) => Piece {
+            value: 1 * 256 + basic_slotgrant::slotgrant_word(e),
+            bits: 9,
+        },
+    }
+}
+
+fn flag_piece(a: ChannelAllocation) -> Piece
+    ensures { λ r. ⌜ Holds (rowBits (flagRow a)) 1 r ⌝ }
+{
+    match a {
+        ChannelAllocation::Without => Piece { value: 0, bits: 1 },
+        ChannelAllocation::Element(_) => Piece { value: 1, bits: 1 },
+    }
+}
+
+// The three flags as one number, with the elements of the first two between them.
+pub fn flags_piece(e: Elements) -> Piece
+    requires { ⌜ elementsRefusal e ≡ 0 ⌝ }
+    ensures { λ r. ⌜ Holds (flagsBits e) (flagsLen e) r ⌝ }
+{
+    let power = e.power_control_element;
+    let granting = e.slot_granting_element;
+    let allocation = e.chan_alloc_element;
+    let behind = piece::joined(granting_piece(granting), flag_piece(allocation));
+    piece::joined(power_piece(power), behind)
+}
+
+// Puts the three flags with their elements into s from pos on.
+pub fn put_elements(s: &mut [u8], pos: usize, e: Elements)
+    requires { ⌜ (pos + elementsLen e ≤ 8 * length (now s)) × (pos + elementsLen e ≤ 65536) × (elementsRefusal e ≡ 0) ⌝ }
+    ensures { λ r. ⌜ now (s .exit) ≡ putBits (now (s .entry)) pos (elementsBits e) ⌝ }
+{
+    let flags = flags_piece(e);
+    let n = flags.bits;
+    let x = flags.value;
+    word::put_bits(s, pos, n, x);
+    let allocation = e.chan_alloc_element;
+    let ChannelAllocation::Element(a) = allocation else {
+        return;
+    };
+    channel_allocation::put_channel_allocation(s, pos + n, a);
+}

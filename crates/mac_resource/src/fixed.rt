@@ -1,0 +1,90 @@
+// Clause 21.4.3.1, the first 16 bits: type 2, fill 1, position of grant 1, encryption 2, random access 1, length 6, address type 3.
+use crate::enums::mac_resource_addr_type as addr_type;
+use crate::enums::mac_resource_addr_type::MacResourceAddrType;
+use crate::piece::Piece;
+use tetra_core::bitbuffer::Cursor;
+use tetra_core::refusal;
+use tetra_core::refusal::Refusal;
+ghost use Prim.Native.Nat.{_<_};
+ghost use lib.ListN.{length};
+ghost use Rattle.tetra_core.specs.Laws.Windows.{Good};
+ghost use Rattle.codec.specs.Header.{within, Reads};
+ghost use Rattle.codec.specs.Row.{rowBits};
+ghost use Rattle.mac_resource.specs.Piece.{Holds};
+ghost use Rattle.mac_resource.specs.Fixed.{readFixed, fixedOut, fixedRow, FixedFits};
+
+pub struct Fixed {
+    pub fill_bits: bool,
+    pub pos_of_grant: u8,
+    pub encryption_mode: u8,
+    pub random_access_flag: bool,
+    pub length_ind: u8,
+    pub addr_type: MacResourceAddrType,
+}
+
+// The first 16 bits as a part of a header, and the offset after them.
+pub enum FixedPart {
+    Read(Fixed, usize),
+    Refused(Refusal),
+}
+
+// The first 16 bits of a header, from the offset o on. The type is judged before any later field is missed.
+pub fn read_fixed(s: &[u8], c: Cursor, o: usize) -> FixedPart
+    requires { ⌜ Good (length (now s)) c ⌝ }
+    ensures { λ r. ⌜ Reads fixedOut readFixed (within (now (s .entry)) c) o r ⌝ }
+{
+    let left = codec::left(s, c, o);
+    if left < 2 {
+        return FixedPart::Refused(Refusal {
+            number: refusal::READ_PAST_END,
+            bit: o,
+        });
+    }
+    if left < 16 {
+        if codec::word(s, c, o, 2) != 0 {
+            return FixedPart::Refused(Refusal {
+                number: refusal::WRONG_PDU_TYPE,
+                bit: o,
+            });
+        }
+        let widths = [1u8, 1, 2, 1, 6, 3];
+        return FixedPart::Refused(codec::short(&widths, left - 2, o + 2));
+    }
+    let x = codec::word(s, c, o, 16);
+    if (x >> 14) % 4 != 0 {
+        return FixedPart::Refused(Refusal {
+            number: refusal::WRONG_PDU_TYPE,
+            bit: o,
+        });
+    }
+    FixedPart::Read(
+        Fixed {
+            fill_bits: (x >> 13) % 2 != 0,
+            pos_of_grant: ((x >> 12) % 2) as u8,
+            encryption_mode: ((x >> 10) % 4) as u8,
+            random_access_flag: (x >> 9) % 2 != 0,
+            length_ind: ((x >> 3) % 64) as u8,
+            addr_type: addr_type::from_raw(x % 8),
+        },
+        o + 16,
+    )
+}
+
+// The first 16 bits as one number.
+pub fn fixed_piece(f: Fixed) -> Piece
+    requires { ⌜ FixedFits f ⌝ }
+    ensures { λ r. ⌜ Holds (rowBits (fixedRow f)) 16 r ⌝ }
+{
+    let kind = f.addr_type;
+    let t = addr_type::into_raw(kind);
+    let fill = codec::bit(f.fill_bits);
+    let pos = f.pos_of_grant as u64;
+    let mode = f.encryption_mode as u64;
+    let random = codec::bit(f.random_access_flag);
+    let len = f.length_ind as u64;
+    Piece {
+        value: 0 * 16384
+            + (fill * 8192 + (pos * 4096 + (mode * 1024 + (random * 512 + (len * 8 + t))))),
+        bits: 16,
+    }
+}

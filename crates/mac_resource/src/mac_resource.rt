@@ -1,0 +1,413 @@
+// Clause 21.4.3.1, MAC-RESOURCE: the first 16 bits, the address and, unless it is null, the elements. 16 bits, or 29 to 92.
+use crate::address;
+use crate::address::AddressPart;
+use crate::elements;
+use crate::elements::ChannelAllocation;
+use crate::elements::Elements;
+use crate::elements::ElementsPart;
+use crate::elements::PowerControl;
+use crate::elements::SlotGranting;
+use crate::enums::mac_resource_addr_type as addr_type;
+use crate::fixed;
+use crate::fixed::Fixed;
+use crate::fixed::FixedPart;
+use crate::piece;
+use crate::piece::Piece;
+use tetra_core::address::TetraAddress;
+use tetra_core::bitbuffer;
+use tetra_core::bitbuffer::Cursor;
+use tetra_core::bitbuffer::Moved;
+use tetra_core::bitbuffer::Outcome;
+use tetra_core::quantity;
+use tetra_core::quantity::Bits;
+use tetra_core::quantity::OctetCount;
+use tetra_core::quantity::Octets;
+use tetra_core::refusal;
+use tetra_core::refusal::Refusal;
+use tetra_core::word;
+ghost use mathlib.Core.List.{_++_};
+ghost use mathlib.Core.Path.{_≡_};
+ghost use Prim.Native.Nat.{_+_, _*_, _≤_, _<_};
+ghost use lib.ListN.{length};
+ghost use Rattle.tetra_core.specs.Bits.{putBits};
+ghost use Rattle.tetra_core.specs.Laws.Windows.{Good};
+ghost use Rattle.codec.specs.Header.{within, Reads};
+ghost use Rattle.codec.specs.Row.{rowBits};
+ghost use Rattle.mac_resource.specs.Piece.{Holds};
+ghost use Rattle.mac_resource.specs.Address.{typeOf, isNull, addressLen, addressRow};
+ghost use Rattle.mac_resource.specs.Fixed.{fixedRow};
+ghost use Rattle.mac_resource.specs.MacResource.{nullOf, nullPdu, fixedOf, elementsOf, headerOf, readMacResource, macResourceOut, macResourceAt, encryptedRefusal, nullRefusal, fieldsRefusal, addRefusal, macResourceRefusal, headerBits, headerLen, lengthRefusal, computeHeaderLen, updateLenAndFillInd, macResourceWrite, macResourceWritten};
+
+// Marks in the place of a length: a fragment starts here; the second half slot is stolen too.
+pub const MAC_RESOURCE_LENGTH_FRAG_START: u8 = 63;
+
+pub const MAC_RESOURCE_LENGTH_2ND_SLOT_STOLEN: u8 = 62;
+
+pub struct MacResource {
+    // 1, whether fill bits follow the content
+    pub fill_bits: bool,
+    // 1, whether a slot grant is on the allocated channel
+    pub pos_of_grant: u8,
+    // 2
+    pub encryption_mode: u8,
+    // 1, whether a random access is acknowledged
+    pub random_access_flag: bool,
+    // 6, octets or a mark
+    pub length_ind: u8,
+    // 3, and the address
+    pub addr: TetraAddress,
+    // 1, and 4 if set
+    pub power_control_element: PowerControl,
+    // 1, and 8 if set
+    pub slot_granting_element: SlotGranting,
+    // 1, and 25 or 27 if set
+    pub chan_alloc_element: ChannelAllocation,
+}
+
+// A MAC-RESOURCE, or why there is none.
+pub enum MacResourceAnswer {
+    Read(MacResource),
+    Refused(Refusal),
+}
+
+// What a read answers, and the cursor after it.
+pub struct MacResourceRead {
+    pub cursor: Cursor,
+    pub answer: MacResourceAnswer,
+}
+
+// A MAC-RESOURCE, and the offset after it.
+pub enum MacResourcePart {
+    Read(MacResource, usize),
+    Refused(Refusal),
+}
+
+// The bits that a header takes up, or the number of the refusal.
+pub enum HeaderLen {
+    Len(Bits),
+    Refused(u8),
+}
+
+// The length of a PDU, its fill bits and the fill flag, or the number of the refusal.
+pub enum LenAndFill {
+    Counted(Octets, Bits, bool),
+    Refused(u8),
+}
+
+// A null PDU of a length: no other field of it carries a meaning.
+fn null_of(length_ind: u8) -> MacResource
+    ensures { λ r. ⌜ r ≡ nullOf «length_ind» ⌝ }
+{
+    MacResource {
+        fill_bits: false,
+        pos_of_grant: 0,
+        encryption_mode: 0,
+        random_access_flag: false,
+        length_ind,
+        addr: TetraAddress::NullPdu,
+        power_control_element: PowerControl::Without,
+        slot_granting_element: SlotGranting::Without,
+        chan_alloc_element: ChannelAllocation::Without,
+    }
+}
+
+pub fn null_pdu() -> MacResource
+    ensures { λ r. ⌜ r ≡ nullPdu ⌝ }
+{
+    null_of(2)
+}
+
+pub fn is_null_pdu(h: MacResource) -> bool
+    ensures { λ r. ⌜ r ≡ isNull (h .addr) ⌝ }
+{
+    let a = h.addr;
+    address::is_null(a)
+}
+
+// The first 16 bits of a header that is written with a length and a fill flag.
+fn fixed_of(h: MacResource, length_ind: u8, fill_bits: bool) -> Fixed
+    ensures { λ r. ⌜ r ≡ fixedOf h «length_ind» «fill_bits» ⌝ }
+{
+    let a = h.addr;
+    Fixed {
+        fill_bits,
+        pos_of_grant: h.pos_of_grant,
+        encryption_mode: h.encryption_mode,
+        random_access_flag: h.random_access_flag,
+        length_ind,
+        addr_type: addr_type::addr_type(a),
+    }
+}
+
+fn elements_of(h: MacResource) -> Elements
+    ensures { λ r. ⌜ r ≡ elementsOf h ⌝ }
+{
+    let power_control_element = h.power_control_element;
+    let slot_granting_element = h.slot_granting_element;
+    let chan_alloc_element = h.chan_alloc_element;
+    Elements {
+        power_control_element,
+        slot_granting_element,
+        chan_alloc_element,
+    }
+}
+
+fn header_of(f: Fixed, addr: TetraAddress, e: Elements) -> MacResource
+    ensures { λ r. ⌜ r ≡ headerOf f addr e ⌝ }
+{
+    let power_control_element = e.power_control_element;
+    let slot_granting_element = e.slot_granting_element;
+    let chan_alloc_element = e.chan_alloc_element;
+    MacResource {
+        fill_bits: f.fill_bits,
+        pos_of_grant: f.pos_of_grant,
+        encryption_mode: f.encryption_mode,
+        random_access_flag: f.random_access_flag,
+        length_ind: f.length_ind,
+        addr,
+        power_control_element,
+        slot_granting_element,
+        chan_alloc_element,
+    }
+}
+
+// The header at the offset o of a window.
+pub fn read_mac_resource(s: &[u8], c: Cursor, o: usize) -> MacResourcePart
+    requires { ⌜ Good (length (now s)) c ⌝ }
+    ensures { λ r. ⌜ Reads macResourceOut readMacResource (within (now (s .entry)) c) o r ⌝ }
+{
+    match fixed::read_fixed(s, c, o) {
+        FixedPart::Refused(r) => MacResourcePart::Refused(r),
+        FixedPart::Read(f, o1) => {
+            let t = f.addr_type;
+            match address::read_address(s, c, o1, t) {
+                AddressPart::Refused(r) => MacResourcePart::Refused(r),
+                AddressPart::Read(a, o2) => {
+                    if address::is_null(a) {
+                        return MacResourcePart::Read(null_of(f.length_ind), o2);
+                    }
+                    match elements::read_elements(s, c, o2) {
+                        ElementsPart::Refused(r) => MacResourcePart::Refused(r),
+                        ElementsPart::Read(e, o3) => MacResourcePart::Read(header_of(f, a, e), o3),
+                    }
+                }
+            }
+        }
+    }
+}
+
+// Reads a header at the cursor.
+pub fn from_bitbuf(s: &[u8], c: Cursor) -> MacResourceRead
+    ensures { λ r. ⌜ r ≡ macResourceAt (now (s .entry)) c ⌝ }
+{
+    if !bitbuffer::good_window(s.len(), c) {
+        return MacResourceRead {
+            cursor: c,
+            answer: MacResourceAnswer::Refused(Refusal {
+                number: refusal::BAD_WINDOW,
+                bit: 0,
+            }),
+        };
+    }
+    match read_mac_resource(s, c, 0) {
+        MacResourcePart::Read(h, n) => MacResourceRead {
+            cursor: codec::moved_by(c, n),
+            answer: MacResourceAnswer::Read(h),
+        },
+        MacResourcePart::Refused(r) => MacResourceRead {
+            cursor: c,
+            answer: MacResourceAnswer::Refused(r),
+        },
+    }
+}
+
+// Why an address is not written under encryption, or 0: check 10, which stands here alone.
+fn encrypted_refusal(h: MacResource) -> u8
+    ensures { λ r. ⌜ r ≡ encryptedRefusal h ⌝ }
+{
+    let a = h.addr;
+    if !address::is_named(a) {
+        return 0;
+    }
+    if h.encryption_mode == 0 {
+        return 0;
+    }
+    refusal::ENCRYPTED_ADDRESS
+}
+
+// Why a null header is not written, or 0.
+fn null_refusal(h: MacResource) -> u8
+    ensures { λ r. ⌜ r ≡ nullRefusal h ⌝ }
+{
+    if !is_null_pdu(h) {
+        return 0;
+    }
+    if h.fill_bits {
+        return refusal::NULL_PDU;
+    }
+    if h.pos_of_grant != 0 {
+        return refusal::NULL_PDU;
+    }
+    if h.encryption_mode != 0 {
+        return refusal::NULL_PDU;
+    }
+    if h.random_access_flag {
+        return refusal::NULL_PDU;
+    }
+    0
+}
+
+// Why the fields of a header are not written, or 0, where the length is itself refused by length or by 0.
+fn fields_refusal(h: MacResource, length: u8) -> u8
+    ensures { λ r. ⌜ r ≡ fieldsRefusal h length ⌝ }
+{
+    let number = encrypted_refusal(h);
+    if number != 0 {
+        return number;
+    }
+    if 1 < h.pos_of_grant {
+        return refusal::VALUE_TOO_WIDE;
+    }
+    if 3 < h.encryption_mode {
+        return refusal::VALUE_TOO_WIDE;
+    }
+    if length != 0 {
+        return length;
+    }
+    let a = h.addr;
+    let number = address::address_refusal(a);
+    if number != 0 {
+        return number;
+    }
+    if address::is_null(a) {
+        return 0;
+    }
+    elements::elements_refusal(elements_of(h))
+}
+
+// Why a header is not added to a block, or 0. The block's writer sets length and fill, so they are not looked at.
+pub fn add_refusal(h: MacResource) -> u8
+    ensures { λ r. ⌜ r ≡ addRefusal h ⌝ }
+{
+    if is_null_pdu(h) {
+        return refusal::NULL_PDU;
+    }
+    fields_refusal(h, 0)
+}
+
+// Why a header is not written, or 0.
+pub fn mac_resource_refusal(h: MacResource) -> u8
+    ensures { λ r. ⌜ r ≡ macResourceRefusal h ⌝ }
+{
+    if h.length_ind == 0 {
+        return refusal::LENGTH;
+    }
+    let number = null_refusal(h);
+    if number != 0 {
+        return number;
+    }
+    if 63 < h.length_ind {
+        return fields_refusal(h, refusal::VALUE_TOO_WIDE);
+    }
+    fields_refusal(h, 0)
+}
+
+// The bits that a header takes up, in the augmented direction too.
+pub fn header_len(h: MacResource) -> usize
+    ensures { λ r. ⌜ (r ≡ headerLen h) × (r ≤ 92) ⌝ }
+{
+    let a = h.addr;
+    let n = 16 + address::address_len(addr_type::addr_type(a));
+    if address::is_null(a) {
+        return n;
+    }
+    n + elements::elements_len(elements_of(h))
+}
+
+// Why the length of a header is not counted, or 0.
+fn length_refusal(h: MacResource) -> u8
+    ensures { λ r. ⌜ r ≡ lengthRefusal h ⌝ }
+{
+    if is_null_pdu(h) {
+        return 0;
+    }
+    let a = h.chan_alloc_element;
+    elements::allocation_len_refusal(a)
+}
+
+// The bits that a header is written as.
+pub fn compute_header_len(h: MacResource) -> HeaderLen
+    ensures { λ r. ⌜ r ≡ computeHeaderLen h ⌝ }
+{
+    let number = length_refusal(h);
+    if number != 0 {
+        return HeaderLen::Refused(number);
+    }
+    HeaderLen::Len(Bits(header_len(h) as u16))
+}
+
+// The length of a PDU with sdu_len bits of content, its fill bits and its fill flag.
+pub fn update_len_and_fill_ind(h: MacResource, sdu_len: usize) -> LenAndFill
+    ensures { λ r. ⌜ r ≡ updateLenAndFillInd h «sdu_len» ⌝ }
+{
+    let number = length_refusal(h);
+    if number != 0 {
+        return LenAndFill::Refused(number);
+    }
+    // so that the sum does not overflow
+    if 8 * quantity::MOST_OCTETS < sdu_len {
+        return LenAndFill::Refused(refusal::LENGTH);
+    }
+    match quantity::count_octets(header_len(h) + sdu_len) {
+        OctetCount::Counted(octets, fill) => LenAndFill::Counted(octets, fill, fill.0 != 0),
+        OctetCount::Refused(n) => LenAndFill::Refused(n),
+    }
+}
+
+// The first 16 bits and the address as one number.
+fn front_piece(h: MacResource, length_ind: u8, fill_bits: bool) -> Piece
+    requires { ⌜ (fieldsRefusal h 0 ≡ 0) × («length_ind» < 64) ⌝ }
+    ensures { λ r. ⌜ Holds (rowBits (fixedRow (fixedOf h «length_ind» «fill_bits»)) ++ rowBits (addressRow (h .addr))) (16 + addressLen (typeOf (h .addr))) r ⌝ }
+{
+    let a = h.addr;
+    piece::joined(
+        fixed::fixed_piece(fixed_of(h, length_ind, fill_bits)),
+        address::address_piece(a),
+    )
+}
+
+// Puts a header with a length and a fill flag into s from pos on.
+pub fn put_mac_resource(s: &mut [u8], pos: usize, h: MacResource, length_ind: u8, fill_bits: bool)
+    requires { ⌜ (pos + headerLen h ≤ 8 * length (now s)) × (pos + headerLen h ≤ 65536) × (fieldsRefusal h 0 ≡ 0) × («length_ind» < 64) ⌝ }
+    ensures { λ r. ⌜ now (s .exit) ≡ putBits (now (s .entry)) pos (headerBits h «length_ind» «fill_bits») ⌝ }
+{
+    let front = front_piece(h, length_ind, fill_bits);
+    let n = front.bits;
+    let x = front.value;
+    word::put_bits(s, pos, n, x);
+    if is_null_pdu(h) {
+        return;
+    }
+    elements::put_elements(s, pos + n, elements_of(h));
+}
+
+// Writes a header at the cursor.
+pub fn to_bitbuf(s: &mut [u8], c: Cursor, h: MacResource) -> Moved
+    ensures { λ r. ⌜ (r ≡ macResourceWrite (now (s .entry)) c h) × (now (s .exit) ≡ macResourceWritten (now (s .entry)) c h) ⌝ }
+{
+    let value = mac_resource_refusal(h);
+    let size = header_len(h);
+    let number = codec::write_refusal(s.len(), c, value, size);
+    if number != 0 {
+        return Moved {
+            cursor: c,
+            answer: Outcome::Refused(number),
+        };
+    }
+    let pos = c.pos;
+    put_mac_resource(s, pos, h, h.length_ind, h.fill_bits);
+    Moved {
+        cursor: codec::moved_by(c, size),
+        answer: Outcome::Done,
+    }
+}
