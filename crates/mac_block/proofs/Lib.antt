@@ -16,4 +16,6 @@ pub mod WrittenBack
 pub mod Calls
 pub mod Runs
 pub mod Demand3
-pub mod Toy
+pub mod Resource
+pub mod Demand3Resource
+pub mod Cases

@@ -1,6 +1,7 @@
 // Whole downlink MAC blocks: the reader's step, the writer's add and finish.
 pub mod fill;
 pub mod frame;
+pub mod reader;
 pub mod writer;
 
 ghost use mathlib.Core.Path.{_≡_};
