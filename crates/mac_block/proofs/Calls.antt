@@ -14,8 +14,10 @@ use Rattle.tetra_core.specs.Bits.{putBits, Bytes}
 use Rattle.tetra_core.specs.Quantity.{octetsOf}
 use Rattle.tetra_core.specs.Refusal.{unless, first}
 use Rattle.tetra_core.specs.Laws.Writes.{length-putBits, bytes-putBits, putBits-nil}
+use Rattle.tetra_core.specs.declared.bitbuffer.Outcome.{Outcome}
 use Rattle.mac_block.specs.Codec.{Codec, Laws}
-use Rattle.mac_block.specs.Writer.{LengthIndication, pduSize, fillBits, finishBits, goodBit, Writer, after, finished, finishTo, Add, total, totalOf, addCheck, addRefusal, addedBits, added, addTo}
+use Rattle.mac_block.specs.declared.writer.LengthIndication.{LengthIndication}
+use Rattle.mac_block.specs.Writer.{pduSize, fillBits, finishBits, goodBit, Writer, after, answerOf, finished, finishTo, Add, total, totalOf, addCheck, addRefusal, addedBits, added, addTo}
 use Rattle.mac_block.specs.Run.{Call, Item, itemAt, ifAccepted, perform, refusal, run, accepted}
 use Rattle.mac_block.specs.Altered.{bitAt}
 use Rattle.mac_block.specs.Demand3.{Holds}
@@ -39,6 +41,19 @@ after-ind : (j : ℕ) (w w' : Writer) (P : Writer → Type 0) → P w → (j ≡
 unfolding after
 after-ind zero w w' P x y = y refl
 after-ind (suc j) w w' P x y = x
+
+-- the two returns of a call that the code's number r refuses, and that leaves w' where nothing does
+pub call-refused : (r j : ℕ) (w w' : Writer) → r ≡ j → (r ≡ 0 → ⊥)
+    → (record { bit = w .bit; answer = Outcome.Refused r } ≡ answerOf j (after j w w')) × (w .bytes ≡ after j w w' .bytes)
+unfolding after
+call-refused r zero w w' e h = absurd (h e)
+call-refused r (suc j) w w' e h = (rw e, refl)
+
+pub call-done : (j : ℕ) (w w' : Writer) → j ≡ 0
+    → (record { bit = w' .bit; answer = Outcome.Done } ≡ answerOf j (after j w w')) × (w' .bytes ≡ after j w w' .bytes)
+unfolding after
+call-done zero w w' e = (refl, refl)
+call-done (suc j) w w' e = absurd (omega arith)
 
 if-accepted : {H : Type 0} (j : ℕ) (x : Item H) (xs : List (Item H)) → j ≡ 0 → ifAccepted j x xs ≡ x ∷ xs
 unfolding ifAccepted
@@ -82,11 +97,11 @@ first-third (suc a) b c d h = refl
 -- the writer's bit behind k bits of header and content
 next-place : (i : LengthIndication) (n p k : ℕ) → 0 < k → k ≤ n - p → Placed n p → Placed n (p + pduSize i (n - p) k)
 unfolding pduSize
-next-place LengthIndication.mark62 n p k u v at = record { inside = omega arith; octet = inl (omega arith) }
-next-place LengthIndication.mark63 n p k u v at = record { inside = omega arith; octet = inl (omega arith) }
-next-place LengthIndication.counted n p k u v at = go (at .octet) (decLe (8 * octetsOf k) (n - p))
+next-place LengthIndication.Mark62 n p k u v at = record { inside = omega arith; octet = inl (omega arith) }
+next-place LengthIndication.Mark63 n p k u v at = record { inside = omega arith; octet = inl (omega arith) }
+next-place LengthIndication.Counted n p k u v at = go (at .octet) (decLe (8 * octetsOf k) (n - p))
   where
-    go : (p ≡ n) ⊎ (p % 8 ≡ 0) → Dec (8 * octetsOf k ≤ n - p) → Placed n (p + pduSize LengthIndication.counted (n - p) k)
+    go : (p ≡ n) ⊎ (p % 8 ≡ 0) → Dec (8 * octetsOf k ≤ n - p) → Placed n (p + pduSize LengthIndication.Counted (n - p) k)
     go (inl e) d = absurd (omega arith)
     go (inr e) (yes h) = record { inside = omega arith; octet = inr (omega arith) }
     go (inr e) (no h) = record { inside = omega arith; octet = inl (omega arith) }

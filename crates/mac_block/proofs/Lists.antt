@@ -2,7 +2,7 @@
 use mathlib.Core.Path.{_≡_, refl, sym, ap, _∙_}
 use mathlib.Core.Bool.{Bool, true, false, cond}
 use mathlib.Core.Option.{Option, none, some}
-use mathlib.Core.List.{List, [], _∷_, _++_}
+use mathlib.Core.List.{List, [], _∷_, _++_, append-nil}
 use Prim.Native.Nat.{ℕ, zero, suc, _+_, _≤_, _<_}
 use native.Mathlib.Omega.{arith}
 use lib.ListN.{length, getD, take, drop, replicate, length-take, length-drop, length-replicate}
@@ -56,15 +56,24 @@ unfolding fillBits
 length-fill zero = refl
 length-fill (suc n) = ap suc (length-replicate n false)
 
-no-one : (n : ℕ) → beforeLastOne (replicate n false) ≡ none
+pub no-one : (n : ℕ) → beforeLastOne (replicate n false) ≡ none
 unfolding beforeLastOne extend
 no-one zero = refl
 no-one (suc n) = rw (no-one n)
 
-pub before-fill : (c : List Bool) (n : ℕ) → beforeLastOne (c ++ (true ∷ replicate n false)) ≡ some c
+-- the last 1 of two lists is the second one's, or where that has none the first one's
+pub before-none : (xs ys : List Bool) → beforeLastOne ys ≡ none → beforeLastOne (xs ++ ys) ≡ beforeLastOne xs
+unfolding beforeLastOne
+before-none [] ys e = e
+before-none (x ∷ xs) ys e = rw (before-none xs ys e)
+
+pub before-some : (xs ys c : List Bool) → beforeLastOne ys ≡ some c → beforeLastOne (xs ++ ys) ≡ some (xs ++ c)
 unfolding beforeLastOne extend
-before-fill [] n = rw (no-one n)
-before-fill (x ∷ xs) n = rw (before-fill xs n)
+before-some [] ys c e = e
+before-some (x ∷ xs) ys c e = rw (before-some xs ys c e)
+
+pub before-fill : (c : List Bool) (n : ℕ) → beforeLastOne (c ++ (true ∷ replicate n false)) ≡ some c
+before-fill c n = before-some c (true ∷ replicate n false) [] (unfold beforeLastOne extend in rw (no-one n)) ∙ ap some (append-nil c)
 
 -- what stands before the last 1 is the front of the list
 Front : List Bool → Option (List Bool) → Type 0

@@ -12,7 +12,8 @@ use lib.ListN.{length, take, drop, length-drop, take-append-drop}
 use lib.Seq.{take-take, take-all}
 use Rattle.tetra_core.specs.Bits.{splice}
 use Rattle.tetra_core.specs.Laws.Splice.{length-splice, splice-at, splice-before}
-use Rattle.mac_block.specs.Frame.{Frame, frame}
+use Rattle.mac_block.specs.declared.frame.Frame.{Frame}
+use Rattle.mac_block.specs.Frame.{frame}
 use Rattle.mac_block.specs.Codec.{Codec, Laws}
 use Rattle.mac_block.specs.Read.{Reading, readOwn, readPdu}
 use Rattle.mac_block.specs.Walk.{Pdu, Entry, Walk, entriesThen, goOn, walk}
@@ -40,7 +41,7 @@ module _ {H : Type 0} (C : Codec H) where
 
   -- a PDU of s bits is put at p; whatever stands behind it, it ends there and reads as r
   gives-put : (b : List Bool) (p : ℕ) (xs : List Bool) (s : ℕ) (r : Reading H) → p + s ≤ length b → length xs ≡ s
-      → ((t : List Bool) → length (xs ++ t) ≡ length b - p → frame (xs ++ t) ≡ Frame.sized s) → readOwn C xs ≡ r
+      → ((t : List Bool) → length (xs ++ t) ≡ length b - p → frame (xs ++ t) ≡ Frame.Sized s) → readOwn C xs ≡ r
       → (es : List (Entry H)) → Gives b p es → Gives (splice p xs b) (p + s) (es ++ (record { bit = p; pdu = Pdu.sized s r } ∷ []))
   unfolding Gives readPdu goOn
   gives-put b p xs s r in-b len fr rd es g d ld td =
@@ -66,7 +67,7 @@ module _ {H : Type 0} (C : Codec H) where
       whole : drop p d ≡ xs ++ drop s (drop p d)
       whole = sym (take-append-drop s (drop p d)) ∙ ap (λ l. l ++ drop s (drop p d)) pdu
 
-      framed : frame (drop p d) ≡ Frame.sized s
+      framed : frame (drop p d) ≡ Frame.Sized s
       framed = rw whole (fr (drop s (drop p d)) (sym (ap length whole) ∙ length-drop p d ∙ ap (λ x. x - p) same))
 
       read : readPdu C (drop p d) s ≡ r

@@ -12,10 +12,12 @@ use lib.Seq.{drop-at}
 use Rattle.tetra_core.specs.Bits.{val, bitsOfNat, odd}
 use Rattle.tetra_core.specs.Laws.Values.{length-bitsOfNat}
 use Rattle.tetra_core.specs.Quantity.{octetsOf}
-use Rattle.mac_block.specs.Frame.{field, Frame, countedFrame, resourceFrame, frameOf, frame}
+use Rattle.mac_block.specs.declared.frame.Frame.{Frame}
+use Rattle.mac_block.specs.Frame.{field, countedFrame, resourceFrame, frameOf, frame}
 use Rattle.mac_block.specs.Codec.{Codec, Laws}
 use Rattle.mac_block.specs.Read.{Reading, behindHeader, readOwn}
-use Rattle.mac_block.specs.Writer.{LengthIndication, lengthOf, pduSize, pduFill, flagOf, fillBits, nullBits, finishBits, Writer, Add, contentOf, totalOf, addBits, addedBits}
+use Rattle.mac_block.specs.declared.writer.LengthIndication.{LengthIndication}
+use Rattle.mac_block.specs.Writer.{lengthOf, pduSize, pduFill, flagOf, fillBits, nullBits, finishBits, Writer, Add, contentOf, totalOf, addBits, addedBits}
 use Rattle.mac_block.specs.Run.{asRead}
 use Rattle.mac_block.proofs.Lists.{cond-ind, field-append, length-fill, before-fill}
 use Rattle.mac_block.proofs.Refusals.{Free}
@@ -25,27 +27,27 @@ use Rattle.mac_block.proofs.Refusals.{Free}
 -- header and content fit in it, and it fits in what is left
 pub size-bounds : (i : LengthIndication) (left n : ℕ) → n ≤ left → (n ≤ pduSize i left n) × (pduSize i left n ≤ left)
 unfolding pduSize
-size-bounds LengthIndication.counted left n h = omega arith
-size-bounds LengthIndication.mark62 left n h = (h, le-refl left)
-size-bounds LengthIndication.mark63 left n h = (h, le-refl left)
+size-bounds LengthIndication.Counted left n h = omega arith
+size-bounds LengthIndication.Mark62 left n h = (h, le-refl left)
+size-bounds LengthIndication.Mark63 left n h = (h, le-refl left)
 
 -- the length field that the writer sets gives the size that it took
 frame-size : (i : LengthIndication) (left n : ℕ) → 16 ≤ n → n ≤ 488 → n ≤ left
-    → resourceFrame left (lengthOf i n) ≡ Frame.sized (pduSize i left n)
+    → resourceFrame left (lengthOf i n) ≡ Frame.Sized (pduSize i left n)
 unfolding pduSize lengthOf resourceFrame countedFrame
-frame-size LengthIndication.mark62 left n _ _ _ = refl
-frame-size LengthIndication.mark63 left n _ _ _ = refl
-frame-size LengthIndication.counted left n lo hi h =
+frame-size LengthIndication.Mark62 left n _ _ _ = refl
+frame-size LengthIndication.Mark63 left n _ _ _ = refl
+frame-size LengthIndication.Counted left n lo hi h =
     rw (lt-leb 62 (octetsOf n) (omega arith), le-ltb (octetsOf n) 2 (omega arith), lt-ltb (8 * octetsOf n) (left + 8) (omega arith))
-    (cond-ind (λ f. f ≡ Frame.sized (min (8 * octetsOf n) left)) (leb (8 * octetsOf n) left) _ _
-    (λ e. ap Frame.sized (omega (arith, leb-true (8 * octetsOf n) left e)))
-    (λ e. ap Frame.sized (omega (arith, leb-false (8 * octetsOf n) left e))))
+    (cond-ind (λ f. f ≡ Frame.Sized (min (8 * octetsOf n) left)) (leb (8 * octetsOf n) left) _ _
+    (λ e. ap Frame.Sized (omega (arith, leb-true (8 * octetsOf n) left e)))
+    (λ e. ap Frame.Sized (omega (arith, leb-false (8 * octetsOf n) left e))))
 
 length<64 : (i : LengthIndication) (n : ℕ) → n ≤ 488 → lengthOf i n < 64
 unfolding lengthOf
-length<64 LengthIndication.counted n h = omega arith
-length<64 LengthIndication.mark62 n h = omega arith
-length<64 LengthIndication.mark63 n h = omega arith
+length<64 LengthIndication.Counted n h = omega arith
+length<64 LengthIndication.Mark62 n h = omega arith
+length<64 LengthIndication.Mark63 n h = omega arith
 
 -- ---- an add
 
@@ -96,7 +98,7 @@ module _ {H : Type 0} (C : Codec H) (L : Laws C) (n : ℕ) (w : Writer) (a : Add
       (behind-fill (C .normal (a .header) l (flagOf fill)) (C .headerLen (a .header)) (contentOf a) fill)
 
   pub frame-added : (t : List Bool) → length (addedBits C left a ++ t) ≡ left
-      → frame (addedBits C left a ++ t) ≡ Frame.sized (pduSize (a .indication) left (totalOf C a))
+      → frame (addedBits C left a ++ t) ≡ Frame.Sized (pduSize (a .indication) left (totalOf C a))
   unfolding addedBits addBits
   frame-added t e =
       let lo : 29 ≤ C .headerLen (a .header) = L .least (a .header) (free .fine) in
@@ -119,7 +121,7 @@ length-finish left =
     cond-ind (λ l. length l ≡ left) (ltb left 16) (fillBits left) (nullBits ++ fillBits (left - 16)) (λ _. length-fill left)
     (λ e. length-append nullBits (fillBits (left - 16)) ∙ omega (arith, length-null, length-fill (left - 16), ltb-false left 16 e))
 
-frame-null : (t : List Bool) → frame (nullBits ++ t) ≡ Frame.null 2
+frame-null : (t : List Bool) → frame (nullBits ++ t) ≡ Frame.Null 2
 unfolding frame frameOf
 frame-null t =
     rw (
@@ -130,6 +132,6 @@ frame-null t =
     )
     (unfold field val nullBits bitsOfNat odd in refl)
 
-pub frame-finish : (left : ℕ) → 16 ≤ left → frame (finishBits left) ≡ Frame.null 2
+pub frame-finish : (left : ℕ) → 16 ≤ left → frame (finishBits left) ≡ Frame.Null 2
 unfolding finishBits
 frame-finish left h = rw (le-ltb left 16 h) (frame-null (fillBits (left - 16)))

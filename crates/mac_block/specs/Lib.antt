@@ -6,3 +6,6 @@ pub mod Writer
 pub mod Run
 pub mod Altered
 pub mod Demand3
+pub mod Resource
+pub mod Step
+pub mod Cases

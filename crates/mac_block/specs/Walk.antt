@@ -6,7 +6,8 @@ use Prim.Native.Nat.{ℕ, zero, suc, _+_, _-_, _*_}
 use lib.Dec.{leb}
 use lib.ListN.{length, drop}
 use Rattle.tetra_core.specs.Bits.{bitsAt}
-use Rattle.mac_block.specs.Frame.{Frame, frame}
+use Rattle.mac_block.specs.declared.frame.Frame.{Frame}
+use Rattle.mac_block.specs.Frame.{frame}
 use Rattle.mac_block.specs.Codec.{Codec}
 use Rattle.mac_block.specs.Read.{Reading, readPdu}
 
@@ -65,10 +66,10 @@ module _ {H : Type 0} where
 
   module _ (C : Codec H) where
     unfoldable pub pduOf : List Bool → Frame → Option (Pdu H)
-    pduOf bits Frame.end = none
-    pduOf bits (Frame.unsized j o) = some (Pdu.unsized j o)
-    pduOf bits (Frame.null l) = some (Pdu.null l)
-    pduOf bits (Frame.sized s) = some (Pdu.sized s (readPdu C bits s))
+    pduOf bits Frame.End = none
+    pduOf bits (Frame.Unsized j o) = some (Pdu.unsized j o)
+    pduOf bits (Frame.Null l) = some (Pdu.null l)
+    pduOf bits (Frame.Sized s) = some (Pdu.sized s (readPdu C bits s))
 
     -- the PDU that begins these bits, which run to the block's end
     unfoldable pub firstPdu : List Bool → Option (Pdu H)

@@ -7,24 +7,23 @@ use lib.ListN.{length, replicate}
 use Rattle.tetra_core.specs.Bits.{bitsOfNat, bitsAt, putBits}
 use Rattle.tetra_core.specs.Quantity.{octetsOf}
 use Rattle.tetra_core.specs.Refusal.{unless, first}
+use Rattle.tetra_core.specs.BitBuffer.{outcome}
+use Rattle.mac_block.specs.declared.writer.Written.{Written}
+use Rattle.mac_block.specs.declared.writer.LengthIndication.{LengthIndication}
 use Rattle.mac_block.specs.Codec.{Codec}
 use Rattle.mac_block.specs.Walk.{goodBlock}
 
--- "a counted length or mark 62 or 63"
-pub data LengthIndication : Type 0 where
-  counted mark62 mark63 : LengthIndication
-
 -- "It sets length": for n bits of header and content
 unfoldable pub lengthOf : LengthIndication → (n : ℕ) → ℕ
-lengthOf LengthIndication.counted n = octetsOf n
-lengthOf LengthIndication.mark62 n = 62
-lengthOf LengthIndication.mark63 n = 63
+lengthOf LengthIndication.Counted n = octetsOf n
+lengthOf LengthIndication.Mark62 n = 62
+lengthOf LengthIndication.Mark63 n = 63
 
 -- the PDU's bits, where `left` are left: whole octets, but not past N; "A marked PDU takes the rest of the block."
 unfoldable pub pduSize : LengthIndication → (left n : ℕ) → ℕ
-pduSize LengthIndication.counted left n = min (8 * octetsOf n) left
-pduSize LengthIndication.mark62 left n = left
-pduSize LengthIndication.mark63 left n = left
+pduSize LengthIndication.Counted left n = min (8 * octetsOf n) left
+pduSize LengthIndication.Mark62 left n = left
+pduSize LengthIndication.Mark63 left n = left
 
 -- "fill is the PDU's end less header and content, a 1 then zeros"
 abbrev pub pduFill : LengthIndication → (left n : ℕ) → ℕ
@@ -54,10 +53,17 @@ pub record Writer : Type 0 where
   pub bytes : List ℕ
   pub bit : ℕ
 
+abbrev pub writerAt : List ℕ → ℕ → Writer
+writerAt v p = record { bytes = v; bit = p }
+
 -- what a call leaves: w' if the number that refuses it is 0, else "a refused call moves nothing"
 unfoldable pub after : ℕ → (w w' : Writer) → Writer
 after zero w w' = w'
 after (suc j) w w' = w
+
+-- what a call answers that j refuses, or 0 if nothing does, and that leaves w: "a write refusal is its number alone"
+abbrev pub answerOf : ℕ → Writer → Written
+answerOf j w = record { bit = w .bit; answer = outcome j }
 
 -- ---- finish
 
@@ -70,6 +76,9 @@ finished n w = record { bytes = putBits (w .bytes) (w .bit) (finishBits (n - w .
 
 unfoldable pub finishTo : (n : ℕ) → Writer → Writer
 finishTo n w = after (finishRefusal (length (w .bytes)) n (w .bit)) w (finished n w)
+
+unfoldable pub finishAnswer : (n : ℕ) → Writer → Written
+finishAnswer n w = answerOf (finishRefusal (length (w .bytes)) n (w .bit)) (finishTo n w)
 
 -- ---- add
 

@@ -1,0 +1,130 @@
+// The writer of a block. Each call gets the bytes and the bit that the last one left.
+use crate::fill;
+use tetra_core::bitbuffer::Outcome;
+use tetra_core::quantity;
+use tetra_core::quantity::OctetCount;
+use tetra_core::quantity::Octets;
+use tetra_core::refusal;
+use tetra_core::word;
+ghost use mathlib.Core.Path.{_≡_};
+ghost use Prim.Native.Nat.{_+_, _*_, _≤_, _<_};
+ghost use lib.ListN.{length};
+ghost use Rattle.tetra_core.specs.Bits.{putBits};
+ghost use Rattle.tetra_core.specs.Quantity.{octetsOf};
+ghost use Rattle.mac_block.specs.Writer.{lengthOf, pduSize, goodBit, writerAt, finishBits, finishRefusal, finishTo, finishAnswer};
+
+// The length that a PDU is written with: its octets, or a mark that it takes the rest of the block.
+pub enum LengthIndication {
+    Counted,
+    Mark62,
+    Mark63,
+}
+
+// The writer's bit after a call, and whether the call was done.
+pub struct Written {
+    pub bit: usize,
+    pub answer: Outcome,
+}
+
+// A null PDU of length 2: 16 bits.
+const NULL_PDU: u64 = 0x0010;
+
+const NULL_BITS: usize = 16;
+
+// Whether a writer of a block of so many bits can stand at a bit: on an octet, or at the end.
+fn good_bit(bits: usize, bit: usize) -> bool
+    ensures { λ r. ⌜ r ≡ goodBit bits bit ⌝ }
+{
+    if bits < bit {
+        return false;
+    }
+    if bit == bits {
+        return true;
+    }
+    bit % 8 == 0
+}
+
+// The octets of a PDU of so many bits of header and content.
+fn octets_of(total: usize) -> Octets
+    requires { ⌜ total ≤ 488 ⌝ }
+    ensures { λ r. ⌜ (r .0 ≡ octetsOf total) × (r .0 ≤ 61) ⌝ }
+{
+    match quantity::count_octets(total) {
+        OctetCount::Counted(octets, _) => octets,
+        // No more than 61 octets are asked for.
+        OctetCount::Refused(_) => Octets(0),
+    }
+}
+
+// The length field of a PDU of so many bits of header and content.
+fn length_of(indication: LengthIndication, total: usize) -> u8
+    requires { ⌜ total ≤ 488 ⌝ }
+    ensures { λ r. ⌜ (r ≡ lengthOf indication total) × (r < 64) ⌝ }
+{
+    match indication {
+        LengthIndication::Counted => octets_of(total).0,
+        LengthIndication::Mark62 => 62,
+        LengthIndication::Mark63 => 63,
+    }
+}
+
+// The bits that it takes up where left bits are left to the block's end.
+fn pdu_size(indication: LengthIndication, left: usize, total: usize) -> usize
+    requires { ⌜ total ≤ 488 ⌝ }
+    ensures { λ r. ⌜ r ≡ pduSize indication left total ⌝ }
+{
+    match indication {
+        LengthIndication::Counted => {
+            let bits = quantity::octets_to_bits(octets_of(total)).0 as usize;
+            word::least(bits, left)
+        }
+        LengthIndication::Mark62 => left,
+        LengthIndication::Mark63 => left,
+    }
+}
+
+// Why a block is not finished, or 0.
+fn finish_refusal(len: usize, bits: usize, bit: usize) -> u8
+    ensures { λ r. ⌜ r ≡ finishRefusal len bits bit ⌝ }
+{
+    if !crate::good_block(bits, len) {
+        return refusal::BAD_WINDOW;
+    }
+    if !good_bit(bits, bit) {
+        return refusal::BAD_WINDOW;
+    }
+    0
+}
+
+// What closes a block, put into the left bits of s from pos on: a null PDU if there is room for it, and fill.
+fn put_closing(s: &mut [u8], pos: usize, left: usize)
+    requires { ⌜ (pos + left ≤ 8 * length (now s)) × (pos + left ≤ 65536) ⌝ }
+    ensures { λ r. ⌜ now (s .exit) ≡ putBits (now (s .entry)) pos (finishBits left) ⌝ }
+{
+    if left < NULL_BITS {
+        fill::put_fill(s, pos, left);
+        return;
+    }
+    word::put_bits(s, pos, NULL_BITS, NULL_PDU);
+    fill::put_fill(s, pos + NULL_BITS, left - NULL_BITS);
+}
+
+// Closes the block behind the PDUs that were added.
+pub fn finish(block: &mut [u8], bits: usize, bit: usize) -> Written
+    ensures { λ r. ⌜ (r ≡ finishAnswer bits (writerAt (now (block .entry)) bit)) × (now (block .exit) ≡ finishTo bits (writerAt (now (block .entry)) bit) .bytes) ⌝ }
+{
+    let number = finish_refusal(block.len(), bits, bit);
+    if number != 0 {
+        return Written {
+            bit,
+            answer: Outcome::Refused(number),
+        };
+    }
+    // Off an octet nothing is left.
+    let octet = bit / 8;
+    put_closing(&mut block[octet..], bit % 8, bits - bit);
+    Written {
+        bit: bits,
+        answer: Outcome::Done,
+    }
+}
