@@ -8,8 +8,6 @@ use native.Mathlib.Nat.{add-zero}
 use lib.ListN.{drop}
 use lib.Dec.{ltb, lit<}
 use borrow.Author.Tests.{ltb-true, ltb-false}
-use Rattle.tetra_core.specs.declared.address.TetraAddress.{TetraAddress}
-use Rattle.tetra_core.specs.declared.address.TetraAddress.the-variants as Address'
 use Rattle.tetra_core.specs.declared.bitbuffer.Cursor.{Cursor}
 use Rattle.codec.specs.Reader.{got, refused, run}
 use Rattle.codec.specs.Feed.{shortAt, short-stop, short-more}

@@ -4,9 +4,6 @@ use mathlib.Core.List.{List, [], _∷_, _++_}
 use mathlib.Core.Bool.{Bool}
 use lib.ListN.{drop}
 use Rattle.tetra_core.specs.Refusal.{first}
-use Rattle.tetra_core.specs.declared.address.SsiType.the-variants as Kind
-use Rattle.tetra_core.specs.declared.address.TetraAddress.{TetraAddress}
-use Rattle.tetra_core.specs.declared.address.TetraAddress.the-variants as Address'
 use Rattle.codec.specs.Reader.{Out, got, refused, Reader, done, field, choose, _>>=_}
 use Rattle.codec.specs.Row.{Cell, cell, rowBits}
 use Rattle.codec.specs.Cases.{flag}

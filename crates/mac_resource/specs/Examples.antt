@@ -10,7 +10,6 @@ use Rattle.tetra_core.specs.Refusal.{first}
 use Rattle.tetra_core.specs.declared.address.SsiType.the-variants as Kind
 use Rattle.tetra_core.specs.declared.address.TetraAddress.the-variants as Address'
 use Rattle.tetra_core.specs.declared.bitbuffer.Cursor.{Cursor}
-use Rattle.tetra_core.specs.declared.bitbuffer.Outcome.the-variants as Outcome'
 use Rattle.codec.specs.Reader.{fieldAt}
 use Rattle.codec.specs.Header.{within}
 use Rattle.codec.specs.Row.{rowBits}

@@ -8,7 +8,6 @@ use mathlib.Core.Bool.{Bool, false, cond, not}
 use lib.ListN.{drop}
 use lib.Dec.{eqb}
 use Rattle.tetra_core.specs.Refusal.{unless, first}
-use Rattle.tetra_core.specs.declared.address.SsiType.the-variants as Kind
 use Rattle.tetra_core.specs.declared.address.TetraAddress.{TetraAddress}
 use Rattle.tetra_core.specs.declared.address.TetraAddress.the-variants as Address'
 use Rattle.tetra_core.specs.declared.bitbuffer.Cursor.{Cursor}
@@ -20,7 +19,6 @@ use Rattle.codec.specs.Header.{atCursor}
 use Rattle.codec.specs.Row.{rowBits}
 use Rattle.codec.specs.Write.{writeAt, writtenAt}
 use Rattle.codec.specs.Cases.{flag}
-use Rattle.mac_resource.specs.declared.enums.mac_resource_addr_type.MacResourceAddrType.the-variants.{NullPdu}
 use Rattle.mac_resource.specs.declared.elements.PowerControl.{PowerControl}
 use Rattle.mac_resource.specs.declared.elements.SlotGranting.{SlotGranting}
 use Rattle.mac_resource.specs.declared.elements.ChannelAllocation.{ChannelAllocation}

@@ -10,7 +10,6 @@ use borrow.Author.Tests.{eqb-true, eqb-false, not-true, not-false, lt-ltb}
 use Rattle.tetra_core.specs.Bits.{digit, bitsOfNat}
 use Rattle.tetra_core.specs.Refusal.{unless, first, first-skip, first-last}
 use Rattle.tetra_core.specs.declared.address.TetraAddress.{TetraAddress}
-use Rattle.tetra_core.specs.declared.address.TetraAddress.the-variants as Address'
 use Rattle.codec.specs.Reader.{got, Reader, done, run}
 use Rattle.codec.specs.Row.{rowBits}
 use Rattle.codec.specs.Cases.{flag}
