@@ -27,7 +27,7 @@ use Rattle.mac_block.specs.Codec.{Laws}
 use Rattle.mac_block.specs.Resource.{resourceCodec}
 use Rattle.mac_block.proofs.Frames.{frame-head}
 
-inside-read : (bits : List Bool) (h : MacResource) (rest : List Bool) (n : ℕ) → run readMacResource bits 0 ≡ got h rest n → n ≤ length bits
+pub inside-read : (bits : List Bool) (h : MacResource) (rest : List Bool) (n : ℕ) → run readMacResource bits 0 ≡ got h rest n → n ≤ length bits
 inside-read bits h rest n e = let i = rw e at (inside readMacResource bits 0) in omega (arith, i .1)
 
 -- ---- a header that is not null
