@@ -140,7 +140,7 @@ addressRow (Address'.SsiAndEventLabel k v l) = cell 24 v ∷ cell 10 l ∷ []
 addressRow (Address'.SsiAndUsageMarker k v m) = cell 24 v ∷ cell 6 m ∷ []
 addressRow (Address'.SmiAndEventLabel v l) = cell 24 v ∷ cell 10 l ∷ []
 
--- what it is read back as: "SSI kind becomes Ssi, a null header has no elements, a frame-18 pattern without pattern 0 vanishes"
+-- what it is read back as: "SSI kind becomes Ssi"
 abbrev pub normalAddress : TetraAddress → TetraAddress
 normalAddress Address'.NullPdu = Address'.NullPdu
 normalAddress (Address'.Ssi k v) = Address'.Ssi Kind.Ssi v

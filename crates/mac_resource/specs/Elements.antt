@@ -148,6 +148,8 @@ abbrev pub allocationLenRefusal : ChannelAllocation → ℕ
 allocationLenRefusal ChannelAllocation.Without = 0
 allocationLenRefusal (ChannelAllocation.Element e) = lenRefusal e
 
+-- ---- what they are read back as
+
 abbrev pub normalAllocation : ChannelAllocation → ChannelAllocation
 normalAllocation ChannelAllocation.Without = ChannelAllocation.Without
 normalAllocation (ChannelAllocation.Element e) = ChannelAllocation.Element (normalChannelAllocation e)

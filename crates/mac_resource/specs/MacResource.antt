@@ -108,7 +108,7 @@ elementsOf h =
 unfoldable pub encryptedRefusal : MacResource → ℕ
 encryptedRefusal h = cond (isNamed (h .addr)) (unless (eqb (h .«encryption_mode») 0) 10) 0
 
--- "null with fill, position, encryption or random access not 0"
+-- "null .. with fill, position, encryption or random access not 0"
 unfoldable pub nullRefusal : MacResource → ℕ
 nullRefusal h =
     cond (isNull (h .addr))
@@ -151,6 +151,7 @@ macResourceWrite s c h = writeAt s c (macResourceRefusal h) (headerBits h (h .«
 abbrev pub macResourceWritten : List ℕ → Cursor → MacResource → List ℕ
 macResourceWritten s c h = writtenAt s c (macResourceRefusal h) (headerBits h (h .«length_ind») (h .«fill_bits»))
 
+-- what it is read back as: "a null header has no elements, .., length and fill are those set by the writer"
 unfoldable pub normalMacResource : MacResource → ℕ → Bool → MacResource
 normalMacResource h len fill =
     cond (isNull (h .addr)) (nullOf len) (headerOf (fixedOf h len fill) (normalAddress (h .addr)) (normalElements (elementsOf h)))

@@ -26,7 +26,7 @@ pub enum AddressPart {
 }
 
 // Whether an address is that of a null PDU.
-pub fn is_null(a: TetraAddress) -> bool
+pub(crate) fn is_null(a: TetraAddress) -> bool
     ensures { λ r. ⌜ r ≡ isNull a ⌝ }
 {
     match a {
@@ -42,7 +42,7 @@ pub fn is_null(a: TetraAddress) -> bool
 }
 
 // Whether an address names an SSI, a USSI or an SMI.
-pub fn is_named(a: TetraAddress) -> bool
+pub(crate) fn is_named(a: TetraAddress) -> bool
     ensures { λ r. ⌜ r ≡ isNamed a ⌝ }
 {
     match a {
@@ -58,7 +58,7 @@ pub fn is_named(a: TetraAddress) -> bool
 }
 
 // The bits of an address by its type.
-pub fn address_len(t: MacResourceAddrType) -> usize
+pub(crate) fn address_len(t: MacResourceAddrType) -> usize
     ensures { λ r. ⌜ (r ≡ addressLen t) × (r ≤ 34) ⌝ }
 {
     match t {
@@ -101,7 +101,7 @@ fn address_of(t: MacResourceAddrType, x: u64) -> TetraAddress
 }
 
 // The address of a type, at the offset o of a header.
-pub fn read_address(s: &[u8], c: Cursor, o: usize, t: MacResourceAddrType) -> AddressPart
+pub(crate) fn read_address(s: &[u8], c: Cursor, o: usize, t: MacResourceAddrType) -> AddressPart
     requires { ⌜ Good (length (now s)) c ⌝ }
     ensures { λ r. ⌜ Reads addressOut (readAddress t) (within (now (s .entry)) c) o r ⌝ }
 {
@@ -141,7 +141,7 @@ fn pair_refusal(v: u32, w: u32, limit: u32) -> u8
 }
 
 // Why an address is not written, or 0.
-pub fn address_refusal(a: TetraAddress) -> u8
+pub(crate) fn address_refusal(a: TetraAddress) -> u8
     ensures { λ r. ⌜ r ≡ addressRefusal a ⌝ }
 {
     match a {
@@ -172,7 +172,7 @@ fn address_word(a: TetraAddress) -> u64
     }
 }
 
-pub fn address_piece(a: TetraAddress) -> Piece
+pub(crate) fn address_piece(a: TetraAddress) -> Piece
     requires { ⌜ addressRefusal a ≡ 0 ⌝ }
     ensures { λ r. ⌜ Holds (rowBits (addressRow a)) (addressLen (typeOf a)) r ⌝ }
 {

@@ -164,7 +164,7 @@ fn read_each(s: &[u8], c: Cursor, o: usize) -> ElementsPart
 }
 
 // The elements at the offset o of a header. Most headers have none: then the three flags are one word.
-pub fn read_elements(s: &[u8], c: Cursor, o: usize) -> ElementsPart
+pub(crate) fn read_elements(s: &[u8], c: Cursor, o: usize) -> ElementsPart
     requires { ⌜ Good (length (now s)) c ⌝ }
     ensures { λ r. ⌜ Reads elementsOut readElements (within (now (s .entry)) c) o r ⌝ }
 {
@@ -217,7 +217,7 @@ fn allocation_refusal(a: ChannelAllocation) -> u8
     }
 }
 
-pub fn elements_refusal(e: Elements) -> u8
+pub(crate) fn elements_refusal(e: Elements) -> u8
     ensures { λ r. ⌜ r ≡ elementsRefusal e ⌝ }
 {
     let power = e.power_control_element;
@@ -262,7 +262,7 @@ fn allocation_len(a: ChannelAllocation) -> usize
     }
 }
 
-pub fn elements_len(e: Elements) -> usize
+pub(crate) fn elements_len(e: Elements) -> usize
     ensures { λ r. ⌜ (r ≡ elementsLen e) × (r ≤ 42) ⌝ }
 {
     let power = e.power_control_element;
@@ -272,7 +272,7 @@ pub fn elements_len(e: Elements) -> usize
 }
 
 // Why the length of a channel allocation is not counted, or 0.
-pub fn allocation_len_refusal(a: ChannelAllocation) -> u8
+pub(crate) fn allocation_len_refusal(a: ChannelAllocation) -> u8
     ensures { λ r. ⌜ r ≡ allocationLenRefusal a ⌝ }
 {
     match a {
@@ -318,7 +318,7 @@ fn flag_piece(a: ChannelAllocation) -> Piece
 }
 
 // The three flags as one number, with the elements of the first two between them.
-pub fn flags_piece(e: Elements) -> Piece
+fn flags_piece(e: Elements) -> Piece
     requires { ⌜ elementsRefusal e ≡ 0 ⌝ }
     ensures { λ r. ⌜ Holds (flagsBits e) (flagsLen e) r ⌝ }
 {
@@ -330,7 +330,7 @@ pub fn flags_piece(e: Elements) -> Piece
 }
 
 // Puts the three flags with their elements into s from pos on.
-pub fn put_elements(s: &mut [u8], pos: usize, e: Elements)
+pub(crate) fn put_elements(s: &mut [u8], pos: usize, e: Elements)
     requires { ⌜ (pos + elementsLen e ≤ 8 * length (now s)) × (pos + elementsLen e ≤ 65536) × (elementsRefusal e ≡ 0) ⌝ }
     ensures { λ r. ⌜ now (s .exit) ≡ putBits (now (s .entry)) pos (elementsBits e) ⌝ }
 {

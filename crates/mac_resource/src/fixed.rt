@@ -29,7 +29,7 @@ pub enum FixedPart {
 }
 
 // The first 16 bits of a header, from the offset o on. The type is judged before any later field is missed.
-pub fn read_fixed(s: &[u8], c: Cursor, o: usize) -> FixedPart
+pub(crate) fn read_fixed(s: &[u8], c: Cursor, o: usize) -> FixedPart
     requires { ⌜ Good (length (now s)) c ⌝ }
     ensures { λ r. ⌜ Reads fixedOut readFixed (within (now (s .entry)) c) o r ⌝ }
 {
@@ -71,7 +71,7 @@ pub fn read_fixed(s: &[u8], c: Cursor, o: usize) -> FixedPart
 }
 
 // The first 16 bits as one number.
-pub fn fixed_piece(f: Fixed) -> Piece
+pub(crate) fn fixed_piece(f: Fixed) -> Piece
     requires { ⌜ FixedFits f ⌝ }
     ensures { λ r. ⌜ Holds (rowBits (fixedRow f)) 16 r ⌝ }
 {

@@ -11,7 +11,7 @@ pub struct Piece {
 }
 
 // Two pieces, one after the other.
-pub fn joined(a: Piece, b: Piece) -> Piece
+pub(crate) fn joined(a: Piece, b: Piece) -> Piece
     requires { ⌜ (a .value < 2 ^ a .bits) × (b .value < 2 ^ b .bits) × (a .bits + b .bits ≤ 63) ⌝ }
     ensures { λ r. ⌜ Holds (pieceBits a ++ pieceBits b) (a .bits + b .bits) r ⌝ }
 {

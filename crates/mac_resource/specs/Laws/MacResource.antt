@@ -69,6 +69,11 @@ told h e =
       fields = rw l at (c .0);
     }
 
+-- a null header that is made, or read, is not refused for its fields
+pub null-fields : (len : ℕ) → fieldsRefusal (nullOf len) 0 ≡ 0
+unfolding fieldsRefusal encryptedRefusal first
+null-fields len = refl
+
 -- a header that an add does not refuse is not null, and fits
 pub add-told : (h : MacResource) → addRefusal h ≡ 0 → (isNull (h .addr) ≡ false) × (fieldsRefusal h 0 ≡ 0)
 unfolding addRefusal
@@ -179,10 +184,10 @@ module _ (h : MacResource) (len : ℕ) (fill : Bool) (e : fieldsRefusal h 0 ≡ 
         normal-null (h .addr),
       )
 
-  pub header-back : (rest : List Bool) (o : ℕ)
+  pub header-back-at : (rest : List Bool) (o : ℕ)
       → run readMacResource (headerBits h len fill ++ rest) o ≡ got (normalMacResource h len fill) rest (o + headerLen h)
   unfolding normalMacResource headerLen after tail
-  header-back rest o = behind rest o ∙ go (isNull (h .addr)) refl
+  header-back-at rest o = behind rest o ∙ go (isNull (h .addr)) refl
     where
       go : (b : Bool) → isNull (h .addr) ≡ b
           → cond b
@@ -197,6 +202,9 @@ module _ (h : MacResource) (len : ℕ) (fill : Bool) (e : fieldsRefusal h 0 ≡ 
           let sum : after o + elementsLen (elementsOf h) ≡ o + (16 + addressLen (typeOf (h .addr)) + elementsLen (elementsOf h)) = omega arith in
           run-bind readElements (λ x. done (headerOf (fixedOf h len fill) (normalAddress (h .addr)) x)) (elementsBits (elementsOf h) ++ rest) (after o)
           ∙ rw (elements-back (elementsOf h) (rw n at (fields-told h 0 e .elements)) rest (after o), sum)
+
+  pub header-back : (rest : List Bool) → run readMacResource (headerBits h len fill ++ rest) 0 ≡ got (normalMacResource h len fill) rest (headerLen h)
+  header-back rest = rw zero-add at (header-back-at rest 0)
 
 -- with the fill flag that it was written with
 pub header-fill : (h : MacResource) (len : ℕ) (fill : Bool) → isNull (h .addr) ≡ false → (normalMacResource h len fill) .«fill_bits» ≡ fill
@@ -215,4 +223,4 @@ unfolding macResourceAt
 mac-resource-written-back s c h e =
     let t = told h (free _ _ _ _ e .value) in
     written-back readMacResource _ _ _ s c (macResourceRefusal h) (headerBits h (h .«length_ind») (h .«fill_bits»)) (header-length h _ _)
-    (λ rest. rw zero-add at (header-back h (h .«length_ind») (h .«fill_bits») (t .fields) (t .small) rest 0)) e
+    (header-back h (h .«length_ind») (h .«fill_bits») (t .fields) (t .small)) e
