@@ -8,7 +8,7 @@ use Rattle.codec.specs.Reader.{run}
 use Rattle.codec.specs.Header.{read}
 use Rattle.mac_resource.specs.MacResource.{readMacResource, macResourceOut}
 use Rattle.mac_block.specs.Step.{sizedEntry}
-use Rattle.mac_block.proofs.Resource.{inside-read}
+use Rattle.mac_resource.specs.Laws.MacResource.{header-inside}
 use Rattle.mac_block.proofs.Stepping.{own-window, own-read, own-refused}
 use Rattle.mac_block.proofs.reader.read_pdu.Statement.{statement}
 use Rattle.mac_block.proofs.reader.read_pdu.Tie as tie
@@ -23,7 +23,7 @@ behind-header-requires : tie.Need-behind-header-requires
 behind-header-requires c κs =
     let r = c .before .before .before in
     let a = r .before .before .args in
-    let i = inside-read (bitsAt (now (a .block)) (a .bit) (a .size)) _ _ _ (sym (rw (c .before .header .given .1) at (header r))) in
+    let i = header-inside (bitsAt (now (a .block)) (a .bit) (a .size)) (sym (rw (c .before .header .given .1) at (header r))) in
     (search needs, search needs, omega (arith, i, length-bitsAt (now (a .block)) (a .bit) (a .size) (omega arith)))
 
 returns : tie.Need-returns
