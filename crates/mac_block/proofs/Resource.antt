@@ -51,7 +51,7 @@ flagged-granting : (g : SlotGranting) → 1 ≤ grantingLen g
 flagged-granting SlotGranting.Without = lit≤ tt
 flagged-granting (SlotGranting.Element g) = lit≤ tt
 
-least-len : (h : MacResource) → addRefusal h ≡ 0 → 29 ≤ headerLen h
+pub least-len : (h : MacResource) → addRefusal h ≡ 0 → 29 ≤ headerLen h
 unfolding headerLen
 least-len h e =
     let n = add-told h e .0 in
