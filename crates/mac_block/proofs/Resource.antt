@@ -2,7 +2,7 @@
 use mathlib.Core.Path.{_≡_, refl, _∙_}
 use mathlib.Core.Bool.{Bool, false}
 use mathlib.Core.List.{List, _++_, append-assoc}
-use Prim.Native.Nat.{ℕ, _<_}
+use Prim.Native.Nat.{ℕ, _≤_, _<_}
 use native.Mathlib.Nat.{mod-eq-of-lt}
 use native.Mathlib.Omega.{arith}
 use lib.ListN.{length}
@@ -14,7 +14,7 @@ use Rattle.codec.specs.Row.{rowBits, length-row}
 use Rattle.mac_resource.specs.declared.mac_resource.MacResource.{MacResource}
 use Rattle.mac_resource.specs.Address.{typeOf, isNull, addrTypeNumber}
 use Rattle.mac_resource.specs.Fixed.{fixedRow}
-use Rattle.mac_resource.specs.MacResource.{fixedOf, addRefusal, headerBits}
+use Rattle.mac_resource.specs.MacResource.{fixedOf, addRefusal, headerBits, headerLen}
 use Rattle.mac_resource.specs.Laws.Address.{addr-type-back}
 use Rattle.mac_resource.specs.Laws.MacResource.{add-told, header-length, header-bounds, header-back, header-fill, header-inside}
 use Rattle.mac_block.specs.Frame.{field, frame, resourceFrame}
@@ -34,6 +34,9 @@ addressed (TetraAddress.Smi v) e = λ z. omega arith
 addressed (TetraAddress.SsiAndEventLabel k v l) e = λ z. omega arith
 addressed (TetraAddress.SsiAndUsageMarker k v m) e = λ z. omega arith
 addressed (TetraAddress.SmiAndEventLabel v l) e = λ z. omega arith
+
+pub least-len : (h : MacResource) → addRefusal h ≡ 0 → 29 ≤ headerLen h
+least-len h e = header-bounds h (add-told h e .0) .0
 
 -- ---- its first 16 bits
 
@@ -65,7 +68,7 @@ pub resource-laws : Laws resourceCodec
 resource-laws = record {
   inside = λ bits h rest n e. header-inside bits e;
   sized = λ h l f e. header-length h l f;
-  least = λ h e. header-bounds h (add-told h e .0) .0;
+  least = least-len;
   framed = λ h l f e lt t k. framed-by h l f e lt t;
   back = λ h l f e lt t. header-back h l f (add-told h e .1) lt t;
   flagged = λ h l f e. header-fill h l f (add-told h e .0);

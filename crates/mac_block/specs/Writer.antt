@@ -89,6 +89,9 @@ pub record Add (H : Type 0) : Type 0 where
   pub content : List ℕ
   pub bits : ℕ
 
+abbrev pub addOf : {H : Type 0} → H → LengthIndication → List ℕ → ℕ → Add H
+addOf h i content k = record { header = h; indication = i; content = content; bits = k }
+
 abbrev pub contentOf : {H : Type 0} → Add H → List Bool
 contentOf a = bitsAt (a .content) 0 (a .bits)
 
@@ -134,3 +137,6 @@ module _ {H : Type 0} (C : Codec H) where
 
   unfoldable pub addTo : (n : ℕ) → Writer → Add H → Writer
   addTo n w a = after (addRefusal (length (w .bytes)) n (w .bit) (a .header) (length (a .content)) (a .bits)) w (added n w a)
+
+  unfoldable pub addAnswer : (n : ℕ) → Writer → Add H → Written
+  addAnswer n w a = answerOf (addRefusal (length (w .bytes)) n (w .bit) (a .header) (length (a .content)) (a .bits)) (addTo n w a)

@@ -1,17 +1,21 @@
 // The writer of a block. Each call gets the bytes and the bit that the last one left.
 use crate::fill;
+use mac_resource::mac_resource as resource;
+use mac_resource::mac_resource::MacResource;
 use tetra_core::bitbuffer::Outcome;
 use tetra_core::quantity;
 use tetra_core::quantity::OctetCount;
 use tetra_core::quantity::Octets;
 use tetra_core::refusal;
+use tetra_core::run;
 use tetra_core::word;
 ghost use mathlib.Core.Path.{_≡_};
 ghost use Prim.Native.Nat.{_+_, _*_, _≤_, _<_};
 ghost use lib.ListN.{length};
-ghost use Rattle.tetra_core.specs.Bits.{putBits};
+ghost use Rattle.tetra_core.specs.Bits.{bitsAt, putBits};
 ghost use Rattle.tetra_core.specs.Quantity.{octetsOf};
-ghost use Rattle.mac_block.specs.Writer.{lengthOf, pduSize, goodBit, writerAt, finishBits, finishRefusal, finishTo, finishAnswer};
+ghost use Rattle.mac_block.specs.Writer.{lengthOf, pduSize, goodBit, writerAt, finishBits, finishRefusal, finishTo, finishAnswer, addCheck, addRefusal, addBits, addOf, addTo, addAnswer};
+ghost use Rattle.mac_block.specs.Resource.{resourceCodec, Puttable};
 
 // The length that a PDU is written with: its octets, or a mark that it takes the rest of the block.
 pub enum LengthIndication {
@@ -94,6 +98,106 @@ fn finish_refusal(len: usize, bits: usize, bit: usize) -> u8
         return refusal::BAD_WINDOW;
     }
     0
+}
+
+// Why a header with so many bits of content is not added to any block, or 0.
+pub fn add_check(header: MacResource, content_bits: usize) -> u8
+    ensures { λ r. ⌜ r ≡ addCheck resourceCodec header «content_bits» ⌝ }
+{
+    // Before the sum, which cannot overflow then.
+    if crate::MOST_BITS < content_bits {
+        return refusal::LENGTH;
+    }
+    if crate::MOST_BITS < resource::header_len(header) + content_bits {
+        return refusal::LENGTH;
+    }
+    resource::add_refusal(header)
+}
+
+// Why it is not added at a bit of a block, with the content in a slice of so many bytes, or 0.
+fn add_refusal(
+    len: usize,
+    bits: usize,
+    bit: usize,
+    header: MacResource,
+    slice: usize,
+    content_bits: usize,
+) -> u8
+    ensures { λ r. ⌜ r ≡ addRefusal resourceCodec len bits bit header slice «content_bits» ⌝ }
+{
+    let number = finish_refusal(len, bits, bit);
+    if number != 0 {
+        return number;
+    }
+    // Whole octets first: eight times the slice, or seven more bits, could overflow.
+    if slice < content_bits / 8 + (content_bits % 8 + 7) / 8 {
+        return refusal::BAD_WINDOW;
+    }
+    let number = add_check(header, content_bits);
+    if number != 0 {
+        return number;
+    }
+    if bits - bit < resource::header_len(header) + content_bits {
+        return refusal::WRITE_PAST_END;
+    }
+    0
+}
+
+// A PDU put into a block: header and fill into the part that begins at its octet, and the content between them.
+fn put_pdu(
+    block: &mut [u8],
+    bit: usize,
+    header: MacResource,
+    length_ind: u8,
+    content: &[u8],
+    content_bits: usize,
+    fill: usize,
+)
+    requires { ⌜ Puttable bit header «length_ind» (length (now content)) «content_bits» fill (length (now block)) ⌝ }
+    ensures { λ r. ⌜ now (block .exit) ≡ putBits (now (block .entry)) bit (addBits resourceCodec header «length_ind» (bitsAt (now (content .entry)) 0 «content_bits») fill) ⌝ }
+{
+    let octet = bit / 8;
+    let header_bits = resource::header_len(header);
+    resource::put_mac_resource(&mut block[octet..], 0, header, length_ind, fill != 0);
+    run::copy_run(block, bit + header_bits, content, 0, content_bits);
+    fill::put_fill(&mut block[octet..], header_bits + content_bits, fill);
+}
+
+// Adds a PDU behind those that were added.
+pub fn add(
+    block: &mut [u8],
+    bits: usize,
+    bit: usize,
+    header: MacResource,
+    indication: LengthIndication,
+    content: &[u8],
+    content_bits: usize,
+) -> Written
+    ensures { λ r. ⌜ (r ≡ addAnswer resourceCodec bits (writerAt (now (block .entry)) bit) (addOf header indication (now (content .entry)) «content_bits»)) × (now (block .exit) ≡ addTo resourceCodec bits (writerAt (now (block .entry)) bit) (addOf header indication (now (content .entry)) «content_bits») .bytes) ⌝ }
+{
+    let number = add_refusal(block.len(), bits, bit, header, content.len(), content_bits);
+    if number != 0 {
+        return Written {
+            bit,
+            answer: Outcome::Refused(number),
+        };
+    }
+    let total = resource::header_len(header) + content_bits;
+    let size = pdu_size(indication, bits - bit, total);
+    let length_ind = length_of(indication, total);
+    put_pdu(
+        block,
+        bit,
+        header,
+        length_ind,
+        content,
+        content_bits,
+        size - total,
+    );
+    Written {
+        bit: bit + size,
+        answer: Outcome::Done,
+    }
 }
 
 // What closes a block, put into the left bits of s from pos on: a null PDU if there is room for it, and fill.

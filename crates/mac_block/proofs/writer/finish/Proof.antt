@@ -1,4 +1,4 @@
-use Prim.Native.Nat.{_-_, _/_}
+use Prim.Native.Nat.{_-_, _/_, _%_}
 use mathlib.Core.Path.{_≡_, sym, _∙_}
 use native.Mathlib.Omega.{arith}
 use borrow.Author.Needs.{needs}
@@ -38,8 +38,8 @@ returns-2 c =
     let a = o .before .before .before .args in
     let f = free o in
     let d = call-done _ (writerAt _ _) (finished _ (writerAt _ _)) (none o) in
-    let e = put-part (now (a .block)) (a .bit) (finishBits (a .bits - a .bit)) (λ i. omega (arith, o .before .before .slice-known .given i))
-    (omega (arith, length-finish (a .bits - a .bit))) (p .put-closing .ensures) in
+    let e = put-part (now (a .block)) (a .bit / 8) (a .bit % 8) (a .bit) (finishBits (a .bits - a .bit))
+    (λ i. omega (arith, o .before .before .slice-known .given i)) (omega arith) (omega (arith, length-finish (a .bits - a .bit))) (p .put-closing .ensures) in
     (d .0, e ∙ d .1)
 
 pub finish-spec : {M : Type 1} → statement M
