@@ -14,14 +14,14 @@ use Rattle.access_assign.specs.declared.structs.base_frame_length.BaseFr
 use Rattle.access_assign.specs.declared.structs.base_frame_length.BaseFrameLength.the-variants.{ReservedSubslot, CLCHSubslot, OngoingFrame, Subslots1, Subslots2, Subslots3, Subslots4, Subslots5, Subslots6, Subslots8, Subslots10, Subslots12, Subslots16, Subslots20, Subslots24, Subslots32}
 use Rattle.access_assign.specs.declared.structs.access_field.AccessField.{AccessField}
 
-access-code-back : (a : AccessCode) → (accessCodeNumber a < 4) × (accessCodeOf (accessCodeNumber a) ≡ a)
+pub access-code-back : (a : AccessCode) → (accessCodeNumber a < 4) × (accessCodeOf (accessCodeNumber a) ≡ a)
 unfolding accessCodeOf
 access-code-back AccessCodeA = (lit< tt, refl)
 access-code-back AccessCodeB = (lit< tt, refl)
 access-code-back AccessCodeC = (lit< tt, refl)
 access-code-back AccessCodeD = (lit< tt, refl)
 
-base-frame-length-back : (l : BaseFrameLength) → (baseFrameLengthNumber l < 16) × (baseFrameLengthOf (baseFrameLengthNumber l) ≡ l)
+pub base-frame-length-back : (l : BaseFrameLength) → (baseFrameLengthNumber l < 16) × (baseFrameLengthOf (baseFrameLengthNumber l) ≡ l)
 unfolding baseFrameLengthOf
 base-frame-length-back ReservedSubslot = (lit< tt, refl)
 base-frame-length-back CLCHSubslot = (lit< tt, refl)

@@ -89,7 +89,7 @@ pub enum ChanAllocLen {
 }
 
 // The timeslots of a number of 4 bits.
-fn timeslots_from_raw(v: u64) -> TimeslotsAssigned
+pub fn timeslots_from_raw(v: u64) -> TimeslotsAssigned
     ensures { λ r. ⌜ r ≡ timeslotsOf v ⌝ }
 {
     TimeslotsAssigned {
@@ -100,13 +100,13 @@ fn timeslots_from_raw(v: u64) -> TimeslotsAssigned
     }
 }
 
-fn timeslots_into_raw(t: TimeslotsAssigned) -> u64
+pub fn timeslots_into_raw(t: TimeslotsAssigned) -> u64
     ensures { λ r. ⌜ (r ≡ timeslotsNumber t) × (r < 16) ⌝ }
 {
     codec::bit(t.ts1) * 8 + codec::bit(t.ts2) * 4 + codec::bit(t.ts3) * 2 + codec::bit(t.ts4)
 }
 
-fn frame18_into_raw(p: Frame18Pattern) -> u64
+pub fn frame18_into_raw(p: Frame18Pattern) -> u64
     ensures { λ r. ⌜ (r ≡ frame18Number p) × (r < 256) ⌝ }
 {
     match p {

@@ -1,0 +1,104 @@
+-- Addresses as words: "address type 0..7, SSI kind (0 Ssi, 1 Issi, 2 Gssi), first number (SSI, USSI, SMI, or the label where it stands alone),
+-- second number (label or marker)"; in the uplink "address type 0..3, SSI kind, address number". "What a case does not have is read as 0 and
+-- not looked at when written."
+use Prim.Native.Nat.{ℕ, min}
+use mathlib.Core.List.{List, [], _∷_}
+use mathlib.Core.Bool.{Bool, true, false}
+use lib.ListN.{getD}
+use lib.Dec.{ltb}
+use Rattle.tetra_core.specs.declared.address.SsiType.{SsiType}
+use Rattle.tetra_core.specs.declared.address.SsiType.the-variants as Kind'
+use Rattle.tetra_core.specs.declared.address.UplinkAddress.{UplinkAddress}
+use Rattle.tetra_core.specs.declared.address.UplinkAddress.the-variants as Uplink'
+use Rattle.tetra_core.specs.declared.address.TetraAddress.{TetraAddress}
+use Rattle.tetra_core.specs.declared.address.TetraAddress.the-variants as Address'
+
+-- ---- the kind of an SSI
+
+abbrev pub ssiKind : SsiType → ℕ
+ssiKind Kind'.Ssi = 0
+ssiKind Kind'.Issi = 1
+ssiKind Kind'.Gssi = 2
+
+-- the kinds of 0 and 1; 2 is the last
+abbrev pub ssiKinds : List SsiType
+ssiKinds = Kind'.Ssi ∷ Kind'.Issi ∷ []
+
+unfoldable pub ssiOfKind : ℕ → SsiType
+ssiOfKind kind = getD ssiKinds kind Kind'.Gssi
+
+-- ---- uplink addresses
+
+abbrev pub uplinkKind : UplinkAddress → ℕ
+uplinkKind (Uplink'.Ssi k v) = ssiKind k
+uplinkKind (Uplink'.EventLabel l) = 0
+uplinkKind (Uplink'.Ussi v) = 0
+uplinkKind (Uplink'.Smi v) = 0
+
+-- for the types 0 to 3
+abbrev pub uplinkKnowns : ℕ → List Bool
+uplinkKnowns kind = ltb kind 3 ∷ true ∷ true ∷ true ∷ []
+
+unfoldable pub uplinkKnown : ℕ → ℕ → Bool
+uplinkKnown type kind = getD (uplinkKnowns kind) type false
+
+-- of the types 0 to 2; 3 is the last. A number that is too large is cut to the largest of its type
+abbrev pub uplinks : ℕ → ℕ → List UplinkAddress
+uplinks kind v = Uplink'.Ssi (ssiOfKind kind) (min v 4294967295) ∷ Uplink'.EventLabel (min v 65535) ∷ Uplink'.Ussi (min v 4294967295) ∷ []
+
+unfoldable pub uplinkValue : ℕ → ℕ → ℕ → UplinkAddress
+uplinkValue type kind v = getD (uplinks kind v) type (Uplink'.Smi (min v 4294967295))
+
+-- ---- downlink addresses
+
+abbrev pub addressKind : TetraAddress → ℕ
+addressKind Address'.NullPdu = 0
+addressKind (Address'.Ssi k v) = ssiKind k
+addressKind (Address'.EventLabel l) = 0
+addressKind (Address'.Ussi v) = 0
+addressKind (Address'.Smi v) = 0
+addressKind (Address'.SsiAndEventLabel k v l) = ssiKind k
+addressKind (Address'.SsiAndUsageMarker k v m) = ssiKind k
+addressKind (Address'.SmiAndEventLabel v l) = 0
+
+abbrev pub addressFirst : TetraAddress → ℕ
+addressFirst Address'.NullPdu = 0
+addressFirst (Address'.Ssi k v) = v
+addressFirst (Address'.EventLabel l) = l
+addressFirst (Address'.Ussi v) = v
+addressFirst (Address'.Smi v) = v
+addressFirst (Address'.SsiAndEventLabel k v l) = v
+addressFirst (Address'.SsiAndUsageMarker k v m) = v
+addressFirst (Address'.SmiAndEventLabel v l) = v
+
+abbrev pub addressSecond : TetraAddress → ℕ
+addressSecond Address'.NullPdu = 0
+addressSecond (Address'.Ssi k v) = 0
+addressSecond (Address'.EventLabel l) = 0
+addressSecond (Address'.Ussi v) = 0
+addressSecond (Address'.Smi v) = 0
+addressSecond (Address'.SsiAndEventLabel k v l) = l
+addressSecond (Address'.SsiAndUsageMarker k v m) = m
+addressSecond (Address'.SmiAndEventLabel v l) = l
+
+-- for the types 0 to 7
+abbrev pub addressKnowns : ℕ → List Bool
+addressKnowns kind = true ∷ ltb kind 3 ∷ true ∷ true ∷ true ∷ ltb kind 3 ∷ ltb kind 3 ∷ true ∷ []
+
+unfoldable pub addressKnown : ℕ → ℕ → Bool
+addressKnown type kind = getD (addressKnowns kind) type false
+
+-- of the types 0 to 6; 7 is the last
+abbrev pub addresses : SsiType → ℕ → ℕ → List TetraAddress
+addresses k a b =
+    Address'.NullPdu
+    ∷ Address'.Ssi k (min a 4294967295)
+    ∷ Address'.EventLabel (min a 65535)
+    ∷ Address'.Ussi (min a 4294967295)
+    ∷ Address'.Smi (min a 4294967295)
+    ∷ Address'.SsiAndEventLabel k (min a 4294967295) (min b 65535)
+    ∷ Address'.SsiAndUsageMarker k (min a 4294967295) (min b 255)
+    ∷ []
+
+unfoldable pub addressValue : ℕ → ℕ → ℕ → ℕ → TetraAddress
+addressValue type kind a b = getD (addresses (ssiOfKind kind) a b) type (Address'.SmiAndEventLabel (min a 4294967295) (min b 65535))

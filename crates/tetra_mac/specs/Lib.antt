@@ -1,0 +1,9 @@
+pub mod Reply
+pub mod Bits
+pub mod Slotgrant
+pub mod ChannelAllocation
+pub mod Address
+pub mod MacAccess
+pub mod MacData
+pub mod AccessAssign
+pub mod Laws

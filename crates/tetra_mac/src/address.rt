@@ -1,0 +1,148 @@
+// Addresses as words: address type, SSI kind, and one number in the uplink, two in the downlink. A type has only some of them.
+use crate::record;
+use tetra_core::address::SsiType;
+use tetra_core::address::TetraAddress;
+use tetra_core::address::UplinkAddress;
+ghost use mathlib.Core.Path.{_≡_};
+ghost use Rattle.tetra_mac.specs.Address.{ssiKind, ssiOfKind, uplinkKind, uplinkKnown, uplinkValue, addressKind, addressFirst, addressSecond, addressKnown, addressValue};
+
+fn ssi_kind(k: SsiType) -> u64
+    ensures { λ r. ⌜ r ≡ ssiKind k ⌝ }
+{
+    match k {
+        SsiType::Ssi => 0,
+        SsiType::Issi => 1,
+        SsiType::Gssi => 2,
+    }
+}
+
+fn ssi_of_kind(kind: u64) -> SsiType
+    ensures { λ r. ⌜ r ≡ ssiOfKind kind ⌝ }
+{
+    match kind {
+        0 => SsiType::Ssi,
+        1 => SsiType::Issi,
+        _ => SsiType::Gssi,
+    }
+}
+
+// The SSI kind of an uplink address, 0 where it has none.
+pub fn uplink_kind(a: UplinkAddress) -> u64
+    ensures { λ r. ⌜ r ≡ uplinkKind a ⌝ }
+{
+    match a {
+        UplinkAddress::Ssi(k, _) => ssi_kind(k),
+        UplinkAddress::EventLabel(_) => 0,
+        UplinkAddress::Ussi(_) => 0,
+        UplinkAddress::Smi(_) => 0,
+    }
+}
+
+// Whether there is such an address type and, where it has one, such an SSI kind.
+pub fn uplink_known(addr_type: u64, kind: u64) -> bool
+    ensures { λ r. ⌜ r ≡ uplinkKnown «addr_type» kind ⌝ }
+{
+    match addr_type {
+        0 => kind < 3,
+        1 => true,
+        2 => true,
+        3 => true,
+        _ => false,
+    }
+}
+
+// The uplink address of a type.
+pub fn uplink_value(addr_type: u64, kind: u64, number: u64) -> UplinkAddress
+    ensures { λ r. ⌜ r ≡ uplinkValue «addr_type» kind number ⌝ }
+{
+    match addr_type {
+        0 => UplinkAddress::Ssi(ssi_of_kind(kind), record::number32(number)),
+        1 => UplinkAddress::EventLabel(record::number16(number)),
+        2 => UplinkAddress::Ussi(record::number32(number)),
+        _ => UplinkAddress::Smi(record::number32(number)),
+    }
+}
+
+// The SSI kind of an address, 0 where it has none.
+pub fn address_kind(a: TetraAddress) -> u64
+    ensures { λ r. ⌜ r ≡ addressKind a ⌝ }
+{
+    match a {
+        TetraAddress::NullPdu => 0,
+        TetraAddress::Ssi(k, _) => ssi_kind(k),
+        TetraAddress::EventLabel(_) => 0,
+        TetraAddress::Ussi(_) => 0,
+        TetraAddress::Smi(_) => 0,
+        TetraAddress::SsiAndEventLabel(k, _, _) => ssi_kind(k),
+        TetraAddress::SsiAndUsageMarker(k, _, _) => ssi_kind(k),
+        TetraAddress::SmiAndEventLabel(_, _) => 0,
+    }
+}
+
+// The SSI, USSI or SMI of an address, or a label that stands alone.
+pub fn address_first(a: TetraAddress) -> u64
+    ensures { λ r. ⌜ r ≡ addressFirst a ⌝ }
+{
+    match a {
+        TetraAddress::NullPdu => 0,
+        TetraAddress::Ssi(_, v) => v as u64,
+        TetraAddress::EventLabel(l) => l as u64,
+        TetraAddress::Ussi(v) => v as u64,
+        TetraAddress::Smi(v) => v as u64,
+        TetraAddress::SsiAndEventLabel(_, v, _) => v as u64,
+        TetraAddress::SsiAndUsageMarker(_, v, _) => v as u64,
+        TetraAddress::SmiAndEventLabel(v, _) => v as u64,
+    }
+}
+
+// The label or marker beside an SSI or SMI, 0 where there is none.
+pub fn address_second(a: TetraAddress) -> u64
+    ensures { λ r. ⌜ r ≡ addressSecond a ⌝ }
+{
+    match a {
+        TetraAddress::NullPdu => 0,
+        TetraAddress::Ssi(_, _) => 0,
+        TetraAddress::EventLabel(_) => 0,
+        TetraAddress::Ussi(_) => 0,
+        TetraAddress::Smi(_) => 0,
+        TetraAddress::SsiAndEventLabel(_, _, l) => l as u64,
+        TetraAddress::SsiAndUsageMarker(_, _, m) => m as u64,
+        TetraAddress::SmiAndEventLabel(_, l) => l as u64,
+    }
+}
+
+// Whether there is such an address type and, where it has one, such an SSI kind.
+pub fn address_known(addr_type: u64, kind: u64) -> bool
+    ensures { λ r. ⌜ r ≡ addressKnown «addr_type» kind ⌝ }
+{
+    match addr_type {
+        0 => true,
+        1 => kind < 3,
+        2 => true,
+        3 => true,
+        4 => true,
+        5 => kind < 3,
+        6 => kind < 3,
+        7 => true,
+        _ => false,
+    }
+}
+
+// The address of a type.
+pub fn address_value(addr_type: u64, kind: u64, a: u64, b: u64) -> TetraAddress
+    ensures { λ r. ⌜ r ≡ addressValue «addr_type» kind a b ⌝ }
+{
+    let ssi = ssi_of_kind(kind);
+    let v = record::number32(a);
+    let l = record::number16(b);
+    match addr_type {
+        0 => TetraAddress::NullPdu,
+        1 => TetraAddress::Ssi(ssi, v),
+        2 => TetraAddress::EventLabel(record::number16(a)),
+        3 => TetraAddress::Ussi(v),
+        4 => TetraAddress::Smi(v),
+        5 => TetraAddress::SsiAndEventLabel(ssi, v, l),
+        6 => TetraAddress::SsiAndUsageMarker(ssi, v, record::number8(b)),
+        _ => TetraAddress::SmiAndEventLabel(v, l),
+    }
+}
