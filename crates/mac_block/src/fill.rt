@@ -15,7 +15,7 @@ pub enum LastOne {
 }
 
 // The last 1 of the bits from the bit from to the bit to, looked for 64 bits at a time from their end.
-pub fn last_one_of(s: &[u8], from: usize, to: usize) -> LastOne
+pub(crate) fn last_one_of(s: &[u8], from: usize, to: usize) -> LastOne
     requires { ⌜ (from ≤ to) × (to ≤ 8 * length (now s)) × (to ≤ 65536) ⌝ }
     ensures { λ r. ⌜ r ≡ lastOne from (beforeLastOne (bitsAt (now (s .entry)) from (to - from))) ⌝ }
 {
@@ -32,7 +32,7 @@ pub fn last_one_of(s: &[u8], from: usize, to: usize) -> LastOne
 }
 
 // n bits of fill put into s from pos on.
-pub fn put_fill(s: &mut [u8], pos: usize, n: usize)
+pub(crate) fn put_fill(s: &mut [u8], pos: usize, n: usize)
     requires { ⌜ (pos + n ≤ 8 * length (now s)) × (pos + n ≤ 65536) ⌝ }
     ensures { λ r. ⌜ now (s .exit) ≡ putBits (now (s .entry)) pos (fillBits n) ⌝ }
 {

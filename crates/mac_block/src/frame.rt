@@ -49,7 +49,7 @@ fn counted_frame(left: usize, length: Octets, offset: usize) -> Frame
 }
 
 // What begins where left bits are left to the block's end.
-pub fn frame_of(left: usize, pdu_type: u8, length: u8, address_type: u8) -> Frame
+fn frame_of(left: usize, pdu_type: u8, length: u8, address_type: u8) -> Frame
     ensures { λ r. ⌜ r ≡ frameOf left «pdu_type» length «address_type» ⌝ }
 {
     if left < FRAME_BITS {
@@ -68,7 +68,7 @@ pub fn frame_of(left: usize, pdu_type: u8, length: u8, address_type: u8) -> Fram
 }
 
 // What begins at a bit of a block that ends left bits on.
-pub fn frame_at(block: &[u8], bit: usize, left: usize) -> Frame
+pub(crate) fn frame_at(block: &[u8], bit: usize, left: usize) -> Frame
     requires { ⌜ (bit + left ≤ 8 * length (now block)) × (bit ≤ 488) ⌝ }
     ensures { λ r. ⌜ r ≡ frame (bitsAt (now (block .entry)) bit left) ⌝ }
 {

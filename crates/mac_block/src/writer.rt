@@ -67,8 +67,8 @@ fn length_of(indication: LengthIndication, total: usize) -> u8
 {
     match indication {
         LengthIndication::Counted => octets_of(total).0,
-        LengthIndication::Mark62 => 62,
-        LengthIndication::Mark63 => 63,
+        LengthIndication::Mark62 => resource::MAC_RESOURCE_LENGTH_2ND_SLOT_STOLEN,
+        LengthIndication::Mark63 => resource::MAC_RESOURCE_LENGTH_FRAG_START,
     }
 }
 
