@@ -29,6 +29,7 @@
 pub mod Reader
 pub mod Feed
 pub mod Header
+pub mod Ahead
 pub mod Row
 pub mod Write
 pub mod Back

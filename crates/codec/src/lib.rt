@@ -11,6 +11,7 @@ ghost use Rattle.tetra_core.specs.BitBuffer.{moved, remaining};
 ghost use Rattle.tetra_core.specs.Laws.Windows.{Good};
 ghost use Rattle.codec.specs.Feed.{shortAt};
 ghost use Rattle.codec.specs.Header.{within, Word, Left};
+ghost use Rattle.codec.specs.Ahead.{Held, NextBits, Ready, aheadOn};
 ghost use Rattle.codec.specs.Write.{refusalAt};
 
 // The bits of a header that are left from the offset o on.
@@ -31,6 +32,59 @@ pub fn word(s: &[u8], c: Cursor, o: usize, n: usize) -> u64
     ensures { λ r. ⌜ Word (within (now (s .entry)) c) o n r ⌝ }
 {
     tetra_core::word::get_bits(s, c.pos + o, n)
+}
+
+// The bits of a header from the offset at on: so many are left, and the first of them stand in a word, behind its used highest bits. Parts
+// that take no more than what is there are read from this number, and no byte is loaded twice.
+pub struct Ahead {
+    pub at: usize,
+    pub left: usize,
+    pub word: u64,
+    pub used: usize,
+}
+
+// Loads what is ahead at the offset o of a header: 64 bits, or as many as there are.
+pub fn load(s: &[u8], c: Cursor, o: usize) -> Ahead
+    requires { ⌜ Good (length (now s)) c ⌝ }
+    ensures { λ r. ⌜ Held (within (now (s .entry)) c) r × Ready r 64 × (r .at ≡ o) ⌝ }
+{
+    let left = left(s, c, o);
+    if left < 1 {
+        return Ahead {
+            at: o,
+            left,
+            word: 0,
+            used: 0,
+        };
+    }
+    let n = tetra_core::word::least(left, 64);
+    Ahead {
+        at: o,
+        left,
+        word: word(s, c, o, n) << (64 - n),
+        used: 0,
+    }
+}
+
+// The next n bits as a number.
+pub fn take(a: Ahead, n: usize) -> u64
+    requires { ⌜ Ready a n × (0 < n) ⌝ }
+    ensures { λ r. ⌜ NextBits a n r ⌝ }
+{
+    tetra_core::word::word_field(a.word, a.used, n)
+}
+
+// What is ahead n bits on.
+pub fn on(a: Ahead, n: usize) -> Ahead
+    requires { ⌜ Ready a n × (n ≤ a .left) ⌝ }
+    ensures { λ r. ⌜ r ≡ aheadOn a n ⌝ }
+{
+    Ahead {
+        at: a.at + n,
+        left: a.left - n,
+        word: a.word,
+        used: a.used + n,
+    }
 }
 
 fn wide(x: u8) -> usize

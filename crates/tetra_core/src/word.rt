@@ -101,7 +101,7 @@ fn wide(x: u8) -> u64
 }
 
 // The n bits of x after its o high bits.
-fn word_field(x: u64, o: usize, n: usize) -> u64
+pub fn word_field(x: u64, o: usize, n: usize) -> u64
     requires { ⌜ (o + n ≤ 64) × (0 < n) ⌝ }
     ensures { λ r. ⌜ r ≡ x / 2 ^ (64 - o - n) % 2 ^ n ⌝ }
 {

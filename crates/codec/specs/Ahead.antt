@@ -1,0 +1,91 @@
+-- The bits ahead of an offset, the first of them in a word: parts of a header are read from the word, and no byte is loaded twice.
+use Prim.Native.Nat.{ℕ, _+_, _-_, _*_, _/_, _%_, _^_, _≤_, _<_, min}
+use mathlib.Core.Path.{_≡_, refl, sym, ap, _∙_}
+use mathlib.Core.List.{List, [], _++_, append-assoc}
+use mathlib.Core.Bool.{Bool}
+use native.Mathlib.Omega.{arith}
+use native.Mathlib.Nat.{add-assoc, add-zero, mod-lt, mod-mod}
+use lib.ListN.{length, drop, length-drop}
+use lib.Seq.{drop-drop, drop-at}
+use lib.Pow.{pow-pos, shr-lt, shr-mod, shr-shr, shl-shr, mod-mod-pow}
+use Rattle.tetra_core.specs.Bits.{bitsOfNat}
+use Rattle.tetra_core.specs.Laws.Values.{length-bitsOfNat, bitsOfNat-add, bitsOfNat-mod, bits-zero}
+use Rattle.codec.specs.Reader.{Out, refused, fieldAt, field-short, Reader, run}
+use Rattle.codec.specs.Feed.{Starts, short, shortAt, total}
+use Rattle.codec.specs.Header.{Word, Reads}
+use Rattle.codec.specs.declared.Ahead.{Ahead}
+
+-- what is ahead are the bits of the header h from an offset on
+pub record Held (h : List Bool) (a : Ahead) : Type 0 where
+  pub bits : a .left ≡ length (drop (a .at) h)
+  pub part : (n : ℕ) → n ≤ a .left → a .used + n ≤ 64 → Word h (a .at) n (a .word / 2 ^ (64 - a .used - n) % 2 ^ n)
+
+-- the number x is the next n bits, whatever the header is
+pub record NextBits (a : Ahead) (n x : ℕ) : Type 0 where
+  pub word : (h : List Bool) → Held h a → n ≤ a .left → Word h (a .at) n x
+
+-- the part of a header that is ahead: the answer r, seen as an outcome, is the definition's, whatever the header is
+pub record ReadsNext {A R : Type 0} (view : ℕ → List Bool → R → Out A) (p : Reader A) (a : Ahead) (r : R) : Type 0 where
+  pub of : (h : List Bool) → Held h a → Reads (view (a .at)) p h (a .at) r
+
+-- n bits more can be taken from the word
+pub record Ready (a : Ahead) (n : ℕ) : Type 0 where
+  pub room : a .used + n ≤ 64
+  pub small : a .at + a .left < 18446744073709551616
+
+-- n bits on
+abbrev pub aheadOn : Ahead → ℕ → Ahead
+aheadOn a n = record { at = a .at + n; left = a .left - n; word = a .word; used = a .used + n }
+
+-- ---- laws
+
+-- the first and the last bits of a word
+word-front : {h : List Bool} {o v : ℕ} (m n : ℕ) → Word h o (m + n) v → (drop o h ≡ bitsOfNat m (v / 2 ^ n) ++ drop (o + m) h) × (drop (o + m) h ≡ bitsOfNat n v ++ drop (o + m + n) h)
+word-front {h} {o} {v} m n w =
+    let e : drop o h ≡ bitsOfNat m (v / 2 ^ n) ++ (bitsOfNat n v ++ drop (o + m + n) h) =
+    w .bits ∙ rw (bitsOfNat-add m n v, append-assoc, add-assoc o m n) in
+    let f : drop (o + m) h ≡ bitsOfNat n v ++ drop (o + m + n) h =
+    sym (drop-drop m o h) ∙ ap (drop m) e ∙ drop-at (bitsOfNat m (v / 2 ^ n)) _ m (length-bitsOfNat m _) in
+    (e ∙ ap (λ (l : List Bool). bitsOfNat m (v / 2 ^ n) ++ l) (sym f), f)
+
+pub word-head : {h : List Bool} {o v : ℕ} (m n : ℕ) → Word h o (m + n) v → Word h o m (v / 2 ^ n)
+word-head m n w = record { bits = word-front m n w .0; small = shr-lt m n (w .small) }
+
+pub word-tail : {h : List Bool} {o v : ℕ} (m n : ℕ) → Word h o (m + n) v → Word h (o + m) n (v % 2 ^ n)
+word-tail {v = v} m n w =
+    record { bits = rw (← bitsOfNat-mod n v (v % 2 ^ n) (sym (mod-mod v (2 ^ n)))) (word-front m n w .1); small = mod-lt v (pow-pos n) }
+
+-- a word of m bits moved up to the highest bit
+pub held-load : {h : List Bool} {o m v : ℕ} (left : ℕ) → left ≡ length (drop o h) → m ≡ min left 64 → Word h o m v
+    → Held h (record { at = o; left = left; word = v * 2 ^ (64 - m); used = 0 })
+held-load {h} {o} {m} {v} left e d w = record { bits = e; part = go }
+  where
+    go : (n : ℕ) → n ≤ left → 0 + n ≤ 64 → Word h o n (v * 2 ^ (64 - m) / 2 ^ (64 - 0 - n) % 2 ^ n)
+    go n i j =
+        let k = m - n in
+        let s : m ≡ n + k = omega (arith, d) in
+        let t : 64 - 0 - n ≡ 64 - m + k = omega (arith, d) in
+        let w' : Word h o (n + k) v = rw s at w in
+        rw (t, ← shr-shr (v * 2 ^ (64 - m)) (64 - m) k, shl-shr v (64 - m), shr-mod {n = v} n k (w' .small)) (word-head n k w')
+
+-- n bits on
+pub held-on : {h : List Bool} {a : Ahead} (m : ℕ) → Held h a → m ≤ a .left → Held h (aheadOn a m)
+held-on {h} {a} m e l = record { bits = omega (arith, e .bits, length-drop (a .at) h, length-drop (a .at + m) h); part = go }
+  where
+    go : (n : ℕ) → n ≤ a .left - m → a .used + m + n ≤ 64 → Word h (a .at + m) n (a .word / 2 ^ (64 - (a .used + m) - n) % 2 ^ n)
+    go n i j =
+        let s : 64 - (a .used + m) - n ≡ 64 - a .used - (m + n) = omega arith in
+        let w = word-tail m n (e .part (m + n) (omega arith) (omega arith)) in
+        rw (s, ← mod-mod-pow (a .word / 2 ^ (64 - a .used - (m + n))) m n) w
+
+-- too few bits are left for the fields that a reader starts with, and for one field
+pub starved-next : {A : Type 0} {h : List Bool} {a : Ahead} (p : Reader A) (ws : List ℕ) → Starts ws p → Held h a → a .left < total ws
+    → run p (drop (a .at) h) (a .at) ≡ refused 1 (a .at + shortAt ws (a .left))
+starved-next {h = h} {a} p ws b e l = rw (← e .bits) at (short p ws (drop (a .at) h) (a .at) b (omega (arith, e .bits)))
+
+pub starved-field : {h : List Bool} {a : Ahead} (w : ℕ) → Held h a → a .left < w → fieldAt w (drop (a .at) h) (a .at) ≡ refused 1 (a .at)
+starved-field {h} {a} w e l = field-short w (drop (a .at) h) (a .at) (omega (arith, e .bits))
+
+-- nothing is left
+pub held-none : {h : List Bool} (o left : ℕ) → left ≡ length (drop o h) → left < 1 → Held h (record { at = o; left = left; word = 0; used = 0 })
+held-none {h} o left e l = held-load {m = 0} {v = 0} left e (omega arith) (record { bits = rw (bits-zero, add-zero); small = omega arith })
