@@ -12,7 +12,7 @@ use Rattle.tetra_core.specs.Bits.{bitsOfNat}
 use Rattle.tetra_core.specs.Laws.Values.{length-bitsOfNat, bitsOfNat-add, bitsOfNat-mod, bits-zero}
 use Rattle.codec.specs.Reader.{Out, refused, fieldAt, field-short, Reader, run}
 use Rattle.codec.specs.Feed.{Starts, short, shortAt, total}
-use Rattle.codec.specs.Header.{Word, Reads}
+use Rattle.codec.specs.Header.{Word, Reads, read}
 use Rattle.codec.specs.declared.Ahead.{Ahead}
 
 -- what is ahead are the bits of the header h from an offset on
@@ -23,10 +23,11 @@ pub record Held (h : List Bool) (a : Ahead) : Type 0 where
 -- the number x is the next n bits, whatever the header is
 pub record NextBits (a : Ahead) (n x : ℕ) : Type 0 where
   pub word : (h : List Bool) → Held h a → n ≤ a .left → Word h (a .at) n x
+  pub small : x < 2 ^ n
 
 -- the part of a header that is ahead: the answer r, seen as an outcome, is the definition's, whatever the header is
-pub record ReadsNext {A R : Type 0} (view : ℕ → List Bool → R → Out A) (p : Reader A) (a : Ahead) (r : R) : Type 0 where
-  pub of : (h : List Bool) → Held h a → Reads (view (a .at)) p h (a .at) r
+pub record ReadsNext {A R : Type 0} (view : List Bool → R → Out A) (p : Reader A) (a : Ahead) (r : R) : Type 0 where
+  pub of : (h : List Bool) → Held h a → Reads view p h (a .at) r
 
 -- n bits more can be taken from the word
 pub record Ready (a : Ahead) (n : ℕ) : Type 0 where
@@ -77,6 +78,15 @@ held-on {h} {a} m e l = record { bits = omega (arith, e .bits, length-drop (a .a
         let s : 64 - (a .used + m) - n ≡ 64 - a .used - (m + n) = omega arith in
         let w = word-tail m n (e .part (m + n) (omega arith) (omega arith)) in
         rw (s, ← mod-mod-pow (a .word / 2 ^ (64 - a .used - (m + n))) m n) w
+
+pub ready-on : {a : Ahead} {k : ℕ} (m n : ℕ) → Ready a k → m + n ≤ k → m ≤ a .left → Ready (aheadOn a m) n
+ready-on m n r i l = record { room = omega (arith, r); small = omega (arith, r) }
+
+-- a header at a window's cursor, read by the function of what is ahead there
+pub first-read : {A R : Type 0} (view : ℕ → List Bool → R → Out A) {p : Reader A} {h : List Bool} {a : Ahead} {x r : R}
+    → ReadsNext (view (a .at)) p a x → Held h a → a .at ≡ 0 → x ≡ r → run p h 0 ≡ view 0 h r
+first-read view {p} {h} {a} {x} {r} f e z g =
+    ap (λ (o : ℕ). run p (drop o h) o) (sym z) ∙ read (f .of h e) g ∙ ap (λ (o : ℕ). view o h r) z
 
 -- too few bits are left for the fields that a reader starts with, and for one field
 pub starved-next : {A : Type 0} {h : List Bool} {a : Ahead} (p : Reader A) (ws : List ℕ) → Starts ws p → Held h a → a .left < total ws

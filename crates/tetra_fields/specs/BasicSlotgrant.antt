@@ -1,5 +1,5 @@
 -- The slot grant (document 01): "8 bits: capacity 4, delay 4. Delay 0 is next opportunity, 1 to 13 that many, 14 frame 18, 15 wait."
-use Prim.Native.Nat.{ℕ}
+use Prim.Native.Nat.{ℕ, _+_}
 use mathlib.Core.List.{List, [], _∷_}
 use mathlib.Core.Bool.{Bool, cond, _&&_}
 use lib.ListN.{drop, getD}
@@ -83,10 +83,10 @@ readSlotgrant = do
   delay ← field 4 done
   done (record { «capacity_allocation» = capAllocOf capacity; «granting_delay» = delayOf delay })
 
--- a part's answer as an outcome
-abbrev pub slotgrantOut : List Bool → SlotgrantPart → Out BasicSlotgrant
-slotgrantOut h (Read g n) = got g (drop n h) n
-slotgrantOut h (Refused r) = refused (r .number) (r .bit)
+-- the answer of a part at the offset o as an outcome
+abbrev pub slotgrantOut : ℕ → List Bool → SlotgrantPart → Out BasicSlotgrant
+slotgrantOut o h (Read g) = got g (drop (o + 8) h) (o + 8)
+slotgrantOut o h (Refused r) = refused (r .number) (r .bit)
 
 unfoldable pub slotgrantAt : List ℕ → Cursor → SlotgrantRead
 slotgrantAt = atCursor readSlotgrant (λ c a. record { cursor = c; answer = a }) SlotgrantAnswer.Read SlotgrantAnswer.Refused

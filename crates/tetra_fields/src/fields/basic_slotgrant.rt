@@ -3,6 +3,7 @@ use crate::enums::basic_slotgrant_cap_alloc as cap_alloc;
 use crate::enums::basic_slotgrant_cap_alloc::BasicSlotgrantCapAlloc;
 use crate::enums::basic_slotgrant_granting_delay as granting_delay;
 use crate::enums::basic_slotgrant_granting_delay::BasicSlotgrantGrantingDelay;
+use codec::Ahead;
 use tetra_core::bitbuffer;
 use tetra_core::bitbuffer::Cursor;
 use tetra_core::bitbuffer::Moved;
@@ -14,8 +15,7 @@ ghost use mathlib.Core.Path.{_≡_};
 ghost use Prim.Native.Nat.{_+_, _*_, _≤_};
 ghost use lib.ListN.{length};
 ghost use Rattle.tetra_core.specs.Bits.{putBits};
-ghost use Rattle.tetra_core.specs.Laws.Windows.{Good};
-ghost use Rattle.codec.specs.Header.{within, Reads};
+ghost use Rattle.codec.specs.Ahead.{Ready, ReadsNext};
 ghost use Rattle.codec.specs.Row.{rowBits, RowIs};
 ghost use Rattle.tetra_fields.specs.BasicSlotgrant.{readSlotgrant, slotgrantOut, slotgrantAt, slotgrantRow, slotgrantRefusal, slotgrantWrite, slotgrantWritten};
 
@@ -36,30 +36,27 @@ pub struct SlotgrantRead {
     pub answer: SlotgrantAnswer,
 }
 
-// A slot grant as a part of a header, and the offset after it.
+// A slot grant as a part of a header.
 pub enum SlotgrantPart {
-    Read(BasicSlotgrant, usize),
+    Read(BasicSlotgrant),
     Refused(Refusal),
 }
 
-// The slot grant at the offset o of a header.
-pub fn read_slotgrant(s: &[u8], c: Cursor, o: usize) -> SlotgrantPart
-    requires { ⌜ Good (length (now s)) c ⌝ }
-    ensures { λ r. ⌜ Reads slotgrantOut readSlotgrant (within (now (s .entry)) c) o r ⌝ }
+// The slot grant that is ahead.
+pub fn read_slotgrant(a: Ahead) -> SlotgrantPart
+    requires { ⌜ Ready a 8 ⌝ }
+    ensures { λ r. ⌜ ReadsNext (slotgrantOut (a .at)) readSlotgrant a r ⌝ }
 {
-    let left = codec::left(s, c, o);
+    let left = a.left;
     if left < 8 {
         let widths = [4u8, 4];
-        return SlotgrantPart::Refused(codec::short(&widths, left, o));
+        return SlotgrantPart::Refused(codec::short(&widths, left, a.at));
     }
-    let x = codec::word(s, c, o, 8);
-    SlotgrantPart::Read(
-        BasicSlotgrant {
-            capacity_allocation: cap_alloc::from_raw((x >> 4) % 16),
-            granting_delay: granting_delay::from_raw((x % 16) as u8),
-        },
-        o + 8,
-    )
+    let x = codec::take(a, 8);
+    SlotgrantPart::Read(BasicSlotgrant {
+        capacity_allocation: cap_alloc::from_raw((x >> 4) % 16),
+        granting_delay: granting_delay::from_raw((x % 16) as u8),
+    })
 }
 
 // Reads a slot grant at the cursor.
@@ -75,9 +72,9 @@ pub fn from_bitbuf(s: &[u8], c: Cursor) -> SlotgrantRead
             }),
         };
     }
-    match read_slotgrant(s, c, 0) {
-        SlotgrantPart::Read(g, n) => SlotgrantRead {
-            cursor: codec::moved_by(c, n),
+    match read_slotgrant(codec::load(s, c, 0)) {
+        SlotgrantPart::Read(g) => SlotgrantRead {
+            cursor: codec::moved_by(c, 8),
             answer: SlotgrantAnswer::Read(g),
         },
         SlotgrantPart::Refused(r) => SlotgrantRead {

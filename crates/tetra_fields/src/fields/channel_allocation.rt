@@ -3,6 +3,7 @@ use crate::enums::alloc_type;
 use crate::enums::alloc_type::ChanAllocType;
 use crate::enums::ul_dl_assignment;
 use crate::enums::ul_dl_assignment::UlDlAssignment;
+use codec::Ahead;
 use tetra_core::bitbuffer;
 use tetra_core::bitbuffer::Cursor;
 use tetra_core::bitbuffer::Moved;
@@ -15,8 +16,7 @@ ghost use mathlib.Core.Path.{_≡_};
 ghost use Prim.Native.Nat.{_+_, _*_, _^_, _≤_, _<_};
 ghost use lib.ListN.{length};
 ghost use Rattle.tetra_core.specs.Bits.{bitsOfNat, putBits};
-ghost use Rattle.tetra_core.specs.Laws.Windows.{Good};
-ghost use Rattle.codec.specs.Header.{within, Reads};
+ghost use Rattle.codec.specs.Ahead.{Ready, ReadsNext};
 ghost use Rattle.codec.specs.Row.{RowIs};
 ghost use Rattle.tetra_fields.specs.ChannelAllocation.{timeslotsOf, timeslotsNumber, frame18Number, readMonPatterns, monPatternsOut, readChannelAllocation, channelAllocationOut, channelAllocationAt, frame18Refusal, lenRefusal, channelAllocationRefusal, channelAllocationRow, channelAllocationBits, channelAllocationLen, computeLen, channelAllocationWrite, channelAllocationWritten};
 
@@ -115,63 +115,65 @@ pub fn frame18_into_raw(p: Frame18Pattern) -> u64
     }
 }
 
-// The monitoring pattern at the offset o of a header, and the frame-18 pattern where it is 0.
-fn read_mon_patterns(s: &[u8], c: Cursor, o: usize) -> MonPatternsPart
-    requires { ⌜ Good (length (now s)) c ⌝ }
-    ensures { λ r. ⌜ Reads monPatternsOut readMonPatterns (within (now (s .entry)) c) o r ⌝ }
+// The monitoring pattern that is ahead, and the frame-18 pattern where it is 0.
+fn read_mon_patterns(a: Ahead) -> MonPatternsPart
+    requires { ⌜ Ready a 4 ⌝ }
+    ensures { λ r. ⌜ ReadsNext monPatternsOut readMonPatterns a r ⌝ }
 {
-    let left = codec::left(s, c, o);
+    let left = a.left;
     if left < 2 {
         return MonPatternsPart::Refused(Refusal {
             number: refusal::READ_PAST_END,
-            bit: o,
+            bit: a.at,
         });
     }
-    let pattern = codec::word(s, c, o, 2);
-    let o1 = o + 2;
+    let pattern = codec::take(a, 2);
+    let b = codec::on(a, 2);
+    let o = b.at;
     if pattern != 0 {
         return MonPatternsPart::Read(
             MonPatterns {
                 mon_pattern: pattern as u8,
                 frame18_mon_pattern: Frame18Pattern::Without,
             },
-            o1,
+            o,
         );
     }
     if left < 4 {
         return MonPatternsPart::Refused(Refusal {
             number: refusal::READ_PAST_END,
-            bit: o1,
+            bit: o,
         });
     }
-    let v = codec::word(s, c, o1, 2);
+    let v = codec::take(b, 2);
     MonPatternsPart::Read(
         MonPatterns {
             mon_pattern: pattern as u8,
             frame18_mon_pattern: Frame18Pattern::Pattern(v as u8),
         },
-        o1 + 2,
+        o + 2,
     )
 }
 
-// The channel allocation at the offset o of a header.
-pub fn read_channel_allocation(s: &[u8], c: Cursor, o: usize) -> ChannelAllocationPart
-    requires { ⌜ Good (length (now s)) c ⌝ }
-    ensures { λ r. ⌜ Reads channelAllocationOut readChannelAllocation (within (now (s .entry)) c) o r ⌝ }
+// The channel allocation that is ahead.
+pub fn read_channel_allocation(a: Ahead) -> ChannelAllocationPart
+    requires { ⌜ Ready a 27 ⌝ }
+    ensures { λ r. ⌜ ReadsNext channelAllocationOut readChannelAllocation a r ⌝ }
 {
-    let left = codec::left(s, c, o);
+    let left = a.left;
+    let o = a.at;
     if left < 23 {
         let widths = [2u8, 4, 2, 1, 1, 12, 1];
         return ChannelAllocationPart::Refused(codec::short(&widths, left, o));
     }
-    let x = codec::word(s, c, o, 23);
+    let x = codec::take(a, 23);
     if x % 2 != 0 {
         return ChannelAllocationPart::Refused(Refusal {
             number: refusal::EXTENDED_CARRIER,
             bit: o + 22,
         });
     }
-    match read_mon_patterns(s, c, o + 23) {
+    match read_mon_patterns(codec::on(a, 23)) {
         MonPatternsPart::Refused(r) => ChannelAllocationPart::Refused(r),
         MonPatternsPart::Read(p, n) => {
             if (x >> 15) % 4 == 0 {
@@ -211,7 +213,7 @@ pub fn from_bitbuf(s: &[u8], c: Cursor) -> ChannelAllocationRead
             }),
         };
     }
-    match read_channel_allocation(s, c, 0) {
+    match read_channel_allocation(codec::load(s, c, 0)) {
         ChannelAllocationPart::Read(e, n) => ChannelAllocationRead {
             cursor: codec::moved_by(c, n),
             answer: ChannelAllocationAnswer::Read(e),

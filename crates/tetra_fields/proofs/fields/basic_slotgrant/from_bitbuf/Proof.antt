@@ -1,7 +1,8 @@
 use borrow.Author.Needs.{needs}
 use Rattle.tetra_core.specs.Laws.Windows.{good-facts}
-use Rattle.codec.specs.Header.{bad-seen, good-seen, ends, read}
-use Rattle.tetra_fields.specs.BasicSlotgrant.{readSlotgrant, slotgrantAt}
+use Rattle.codec.specs.Header.{bad-seen, good-seen, ends}
+use Rattle.codec.specs.Ahead.{first-read}
+use Rattle.tetra_fields.specs.BasicSlotgrant.{readSlotgrant, slotgrantOut, slotgrantAt}
 use Rattle.tetra_fields.proofs.fields.basic_slotgrant.from_bitbuf.Statement.{statement}
 use Rattle.tetra_fields.proofs.fields.basic_slotgrant.from_bitbuf.Tie as tie
 
@@ -9,28 +10,48 @@ returns : tie.Need-returns
 unfolding slotgrantAt
 returns c = rw (bad-seen _ _ (c .before .good-window .ensures) (c .if1 .taken))
 
-read-slotgrant-requires : tie.Need-read-slotgrant-requires
-read-slotgrant-requires c κs = good-facts _ _ (good-seen _ _ (c .before .good-window .ensures) (c .if1 .left))
+load-requires : tie.Need-load-requires
+load-requires c κs = good-facts _ _ (good-seen _ _ (c .before .good-window .ensures) (c .if1 .left))
 
 moved-by-requires : tie.Need-moved-by-requires
 moved-by-requires c κs =
     let r = c .before .before .before in
-    ends readSlotgrant _ _ (good-facts _ _ (good-seen _ _ (r .before .before .good-window .ensures) (r .before .if1 .left)))
-    (read (r .read-slotgrant .ensures) (c .before .g .given .1))
+    let l = r .before in
+    ends readSlotgrant _ _ (good-facts _ _ (good-seen _ _ (l .before .before .good-window .ensures) (l .before .if1 .left)))
+    (first-read slotgrantOut (r .read-slotgrant .ensures) (l .load .ensures .0) (l .load .ensures .2) (c .before .g .given .1))
 
 returns-2 : tie.Need-returns-2
 unfolding slotgrantAt
 returns-2 c =
     let m = c .before .before in
     let r = m .before .before in
-    rw (c .moved-by .ensures, good-seen _ _ (r .before .before .good-window .ensures) (r .before .if1 .left), read (r .read-slotgrant .ensures) (m .g .given .1))
+    let l = r .before in
+    rw (
+      c .moved-by .ensures,
+      good-seen _ _ (l .before .before .good-window .ensures) (l .before .if1 .left),
+      first-read slotgrantOut (r .read-slotgrant .ensures) (l .load .ensures .0) (l .load .ensures .2) (m .g .given .1),
+    )
 
 returns-3 : tie.Need-returns-3
 unfolding slotgrantAt
 returns-3 c =
     let r = c .before .before .before in
-    rw (good-seen _ _ (r .before .before .good-window .ensures) (r .before .if1 .left), read (r .read-slotgrant .ensures) (c .before .r .given .1))
+    let l = r .before in
+    rw (
+      good-seen _ _ (l .before .before .good-window .ensures) (l .before .if1 .left),
+      first-read slotgrantOut (r .read-slotgrant .ensures) (l .load .ensures .0) (l .load .ensures .2) (c .before .r .given .1),
+    )
 
 pub from-bitbuf-spec : {M : Type 1} → statement M
 from-bitbuf-spec =
-    tie.close (tie.spec (λ c κs. search needs) returns read-slotgrant-requires (λ c. search needs) moved-by-requires (λ c. search needs) returns-2 returns-3)
+    tie.close
+    (tie.spec
+    (λ c κs. search needs)
+    returns
+    load-requires
+    (λ c κs. search needs)
+    (λ c. search needs)
+    moved-by-requires
+    (λ c. search needs)
+    returns-2
+    returns-3)

@@ -1,25 +1,29 @@
 use mathlib.Core.List.{[], _∷_}
 use borrow.Author.Needs.{needs}
-use Rattle.codec.specs.Header.{fed, starved}
+use Rattle.codec.specs.Header.{fed}
+use Rattle.codec.specs.Ahead.{starved-next}
 use Rattle.tetra_fields.specs.BasicSlotgrant.{readSlotgrant}
 use Rattle.tetra_fields.proofs.fields.basic_slotgrant.read_slotgrant.Statement.{statement}
 use Rattle.tetra_fields.proofs.fields.basic_slotgrant.read_slotgrant.Tie as tie
 
 returns : tie.Need-returns
 unfolding readSlotgrant
-returns c =
-    let t = c .before .before in
-    record { means = rw (c .short .ensures, starved readSlotgrant (4 ∷ 4 ∷ []) (λ _ _. tt) (t .before .left .ensures) (t .if1 .taken)) }
+returns c = record {
+  of = λ h e. record { means = rw (c .short .ensures, starved-next readSlotgrant (4 ∷ 4 ∷ []) (λ _ _. tt) e (c .before .before .if1 .taken)) };
+}
 
 returns-2 : tie.Need-returns-2
 unfolding readSlotgrant
-returns-2 c = record { means = rw (fed readSlotgrant (c .before .before .word .ensures), c .before .from-raw .ensures, c .from-raw2 .ensures) }
+returns-2 c = record {
+  of = λ h e. record {
+    means = rw (fed readSlotgrant (c .before .before .take .ensures .word h e (c .before .before .before .if1 .left)), c .before .from-raw .ensures, c .from-raw2 .ensures);
+  };
+}
 
 pub read-slotgrant-spec : {M : Type 1} → statement M
 read-slotgrant-spec =
     tie.close
     (tie.spec
-    (λ c κs. search needs)
     (λ c. search needs)
     (λ c κs. search needs)
     returns
@@ -27,5 +31,4 @@ read-slotgrant-spec =
     (λ c κs. search needs)
     (λ c. search needs)
     (λ c κs. search needs)
-    (λ c. search needs)
     returns-2)
