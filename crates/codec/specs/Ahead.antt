@@ -10,7 +10,7 @@ use lib.Seq.{drop-drop, drop-at}
 use lib.Pow.{pow-pos, shr-lt, shr-mod, shr-shr, shl-shr, mod-mod-pow}
 use Rattle.tetra_core.specs.Bits.{bitsOfNat}
 use Rattle.tetra_core.specs.Laws.Values.{length-bitsOfNat, bitsOfNat-add, bitsOfNat-mod, bits-zero}
-use Rattle.codec.specs.Reader.{Out, refused, fieldAt, field-short, Reader, run}
+use Rattle.codec.specs.Reader.{Out, got, refused, fieldAt, field-short, Reader, run, inside}
 use Rattle.codec.specs.Feed.{Starts, short, shortAt, total}
 use Rattle.codec.specs.Header.{Word, Reads, read}
 use Rattle.codec.specs.declared.Ahead.{Ahead}
@@ -82,11 +82,19 @@ held-on {h} {a} m e l = record { bits = omega (arith, e .bits, length-drop (a .a
 pub ready-on : {a : Ahead} {k : ℕ} (m n : ℕ) → Ready a k → m + n ≤ k → m ≤ a .left → Ready (aheadOn a m) n
 ready-on m n r i l = record { room = omega (arith, r); small = omega (arith, r) }
 
--- a header at a window's cursor, read by the function of what is ahead there
-pub first-read : {A R : Type 0} (view : ℕ → List Bool → R → Out A) {p : Reader A} {h : List Bool} {a : Ahead} {x r : R}
-    → ReadsNext (view (a .at)) p a x → Held h a → a .at ≡ 0 → x ≡ r → run p h 0 ≡ view 0 h r
-first-read view {p} {h} {a} {x} {r} f e z g =
+pub ready-less : {a : Ahead} {k : ℕ} (n : ℕ) → Ready a k → n ≤ k → Ready a n
+ready-less n r l = record { room = omega (arith, r); small = r .small }
+
+-- what the function of a part that is ahead at the offset o answered, as the part's outcome
+pub next-read : {A R : Type 0} (view : ℕ → List Bool → R → Out A) {p : Reader A} {h : List Bool} {a : Ahead} {o : ℕ} {x r : R}
+    → ReadsNext (view (a .at)) p a x → Held h a → a .at ≡ o → x ≡ r → run p (drop o h) o ≡ view o h r
+next-read view {p} {h} {a} {o} {x} {r} f e z g =
     ap (λ (o : ℕ). run p (drop o h) o) (sym z) ∙ read (f .of h e) g ∙ ap (λ (o : ℕ). view o h r) z
+
+-- what was read of it was there
+pub took : {A : Type 0} {h : List Bool} {a : Ahead} {o n : ℕ} {v : A} {rest : List Bool} (p : Reader A) → Held h a → a .at ≡ o
+    → run p (drop o h) o ≡ got v rest (o + n) → n ≤ a .left
+took {h = h} {a} {o} p e z f = let i = rw f at (inside p (drop o h) o) in omega (arith, rw z at (e .bits), i .1)
 
 -- too few bits are left for the fields that a reader starts with, and for one field
 pub starved-next : {A : Type 0} {h : List Bool} {a : Ahead} (p : Reader A) (ws : List ℕ) → Starts ws p → Held h a → a .left < total ws

@@ -1,6 +1,6 @@
 -- The address of a MAC-RESOURCE (document 01): "by address type: 0 null, nothing more; 1 SSI; 2 event label; 3 USSI; 4 SMI; 5 SSI, label; 6 SSI,
 -- usage marker; 7 SMI, label. SSI, USSI and SMI have 24 bits, label 10, marker 6."
-use Prim.Native.Nat.{ℕ, _/_, _%_, _^_}
+use Prim.Native.Nat.{ℕ, _+_, _/_, _%_, _^_}
 use mathlib.Core.List.{List, [], _∷_}
 use mathlib.Core.Bool.{Bool, true, false}
 use lib.ListN.{drop, getD}
@@ -89,10 +89,6 @@ readAddress SsiAndEventLabel = two 24 10 (Address'.SsiAndEventLabel Kind.Ssi)
 readAddress SsiAndUsageMarker = two 24 6 (Address'.SsiAndUsageMarker Kind.Ssi)
 readAddress SmiAndEventLabel = two 24 10 Address'.SmiAndEventLabel
 
-abbrev pub addressOut : List Bool → AddressPart → Out TetraAddress
-addressOut h (AddressPart.Read a n) = got a (drop n h) n
-addressOut h (AddressPart.Refused r) = refused (r .number) (r .bit)
-
 abbrev pub addressLen : MacResourceAddrType → ℕ
 addressLen NullPdu = 0
 addressLen Ssi = 24
@@ -102,6 +98,11 @@ addressLen Smi = 24
 addressLen SsiAndEventLabel = 34
 addressLen SsiAndUsageMarker = 30
 addressLen SmiAndEventLabel = 34
+
+-- the answer of a part at the offset o as an outcome
+abbrev pub addressOut : MacResourceAddrType → ℕ → List Bool → AddressPart → Out TetraAddress
+addressOut t o h (AddressPart.Read a) = got a (drop (o + addressLen t) h) (o + addressLen t)
+addressOut t o h (AddressPart.Refused r) = refused (r .number) (r .bit)
 
 -- the address whose bits are the number x
 abbrev pub addressOf : MacResourceAddrType → ℕ → TetraAddress

@@ -58,13 +58,23 @@ readElements = do
   allocation ← readAllocation
   done (record { «power_control_element» = power; «slot_granting_element» = granting; «chan_alloc_element» = allocation })
 
-abbrev pub powerOut : List Bool → PowerPart → Out PowerControl
-powerOut h (PowerPart.Read p n) = got p (drop n h) n
-powerOut h (PowerPart.Refused r) = refused (r .number) (r .bit)
+-- ---- the answer of each part, at the offset o, as an outcome
 
-abbrev pub grantingOut : List Bool → GrantingPart → Out SlotGranting
-grantingOut h (GrantingPart.Read g n) = got g (drop n h) n
-grantingOut h (GrantingPart.Refused r) = refused (r .number) (r .bit)
+abbrev pub powerLen : PowerControl → ℕ
+powerLen PowerControl.Without = 1
+powerLen (PowerControl.Level v) = 5
+
+abbrev pub grantingLen : SlotGranting → ℕ
+grantingLen SlotGranting.Without = 1
+grantingLen (SlotGranting.Element g) = 9
+
+abbrev pub powerOut : ℕ → List Bool → PowerPart → Out PowerControl
+powerOut o h (PowerPart.Read p) = got p (drop (o + powerLen p) h) (o + powerLen p)
+powerOut o h (PowerPart.Refused r) = refused (r .number) (r .bit)
+
+abbrev pub grantingOut : ℕ → List Bool → GrantingPart → Out SlotGranting
+grantingOut o h (GrantingPart.Read g) = got g (drop (o + grantingLen g) h) (o + grantingLen g)
+grantingOut o h (GrantingPart.Refused r) = refused (r .number) (r .bit)
 
 abbrev pub allocationOut : List Bool → AllocationPart → Out ChannelAllocation
 allocationOut h (AllocationPart.Read a n) = got a (drop n h) n
@@ -124,14 +134,6 @@ flagsBits e =
     ++ (rowBits (grantingRow (e .«slot_granting_element»)) ++ rowBits (flagRow (e .«chan_alloc_element»)))
 
 -- ---- how many bits
-
-abbrev pub powerLen : PowerControl → ℕ
-powerLen PowerControl.Without = 1
-powerLen (PowerControl.Level v) = 5
-
-abbrev pub grantingLen : SlotGranting → ℕ
-grantingLen SlotGranting.Without = 1
-grantingLen (SlotGranting.Element g) = 9
 
 abbrev pub allocationLen : ChannelAllocation → ℕ
 allocationLen ChannelAllocation.Without = 1

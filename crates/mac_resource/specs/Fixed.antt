@@ -1,6 +1,6 @@
 -- The first 16 bits of a MAC-RESOURCE (document 01): "Type 2 (0), fill 1, position of grant 1, encryption 2, random access 1, length 6,
 -- address type 3: 16 bits."
-use Prim.Native.Nat.{_<_}
+use Prim.Native.Nat.{ℕ, _+_, _<_}
 use mathlib.Core.List.{List, [], _∷_}
 use mathlib.Core.Bool.{Bool}
 use lib.ListN.{drop}
@@ -38,10 +38,10 @@ readFixed = do
   kind ← field 2 done
   choose (flag kind) (refuse 4 at) readBehindType
 
--- a part's answer as an outcome
-abbrev pub fixedOut : List Bool → FixedPart → Out Fixed
-fixedOut h (FixedPart.Read f n) = got f (drop n h) n
-fixedOut h (FixedPart.Refused r) = refused (r .number) (r .bit)
+-- the answer of a part at the offset o as an outcome
+abbrev pub fixedOut : ℕ → List Bool → FixedPart → Out Fixed
+fixedOut o h (FixedPart.Read f) = got f (drop (o + 16) h) (o + 16)
+fixedOut o h (FixedPart.Refused r) = refused (r .number) (r .bit)
 
 -- ---- what is written
 

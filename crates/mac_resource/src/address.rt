@@ -2,26 +2,24 @@
 use crate::enums::mac_resource_addr_type as addr_type;
 use crate::enums::mac_resource_addr_type::MacResourceAddrType;
 use crate::piece::Piece;
+use codec::Ahead;
 use tetra_core::address::SsiType;
 use tetra_core::address::TetraAddress;
-use tetra_core::bitbuffer::Cursor;
 use tetra_core::refusal;
 use tetra_core::refusal::Refusal;
 ghost use mathlib.Core.List.{[], _∷_};
 ghost use mathlib.Core.Path.{_≡_};
 ghost use Prim.Native.Nat.{_≤_};
-ghost use lib.ListN.{length};
 ghost use lib.Dec.{ltb};
 ghost use Rattle.tetra_core.specs.Refusal.{unless, first};
-ghost use Rattle.tetra_core.specs.Laws.Windows.{Good};
-ghost use Rattle.codec.specs.Header.{within, Reads};
+ghost use Rattle.codec.specs.Ahead.{Ready, ReadsNext};
 ghost use Rattle.codec.specs.Row.{rowBits, rowWord};
 ghost use Rattle.mac_resource.specs.Piece.{Holds};
 ghost use Rattle.mac_resource.specs.Address.{typeOf, isNull, isNamed, addressLen, addressOf, readAddress, addressOut, addressRefusal, addressRow};
 
-// An address as a part of a header, and the offset after it.
+// An address as a part of a header.
 pub enum AddressPart {
-    Read(TetraAddress, usize),
+    Read(TetraAddress),
     Refused(Refusal),
 }
 
@@ -100,23 +98,23 @@ fn address_of(t: MacResourceAddrType, x: u64) -> TetraAddress
     }
 }
 
-// The address of a type, at the offset o of a header.
-pub(crate) fn read_address(s: &[u8], c: Cursor, o: usize, t: MacResourceAddrType) -> AddressPart
-    requires { ⌜ Good (length (now s)) c ⌝ }
-    ensures { λ r. ⌜ Reads addressOut (readAddress t) (within (now (s .entry)) c) o r ⌝ }
+// The address of a type, which is ahead.
+pub(crate) fn read_address(a: Ahead, t: MacResourceAddrType) -> AddressPart
+    requires { ⌜ Ready a 34 ⌝ }
+    ensures { λ r. ⌜ ReadsNext (addressOut t (a .at)) (readAddress t) a r ⌝ }
 {
     let n = address_len(t);
     if n == 0 {
-        return AddressPart::Read(TetraAddress::NullPdu, o);
+        return AddressPart::Read(TetraAddress::NullPdu);
     }
-    let left = codec::left(s, c, o);
+    let left = a.left;
     if left < n {
         // a label alone, of 10 bits, is cut off where 24 bits would be
         let widths = [24u8, 10];
-        return AddressPart::Refused(codec::short(&widths, left, o));
+        return AddressPart::Refused(codec::short(&widths, left, a.at));
     }
-    let x = codec::word(s, c, o, n);
-    AddressPart::Read(address_of(t, x), o + n)
+    let x = codec::take(a, n);
+    AddressPart::Read(address_of(t, x))
 }
 
 // The refusal of a number that does not fit below the limit of its field, or 0.

@@ -1,6 +1,7 @@
 // Clause 21.4.3.1, the optional elements: power control, slot granting and channel allocation, each behind a flag of its own.
 use crate::piece;
 use crate::piece::Piece;
+use codec::Ahead;
 use tetra_core::bitbuffer::Cursor;
 use tetra_core::refusal;
 use tetra_core::refusal::Refusal;
@@ -17,6 +18,7 @@ ghost use lib.ListN.{length};
 ghost use Rattle.tetra_core.specs.Bits.{putBits};
 ghost use Rattle.tetra_core.specs.Laws.Windows.{Good};
 ghost use Rattle.codec.specs.Header.{within, Reads};
+ghost use Rattle.codec.specs.Ahead.{Held, Ready, ReadsNext};
 ghost use Rattle.codec.specs.Row.{rowBits};
 ghost use Rattle.mac_resource.specs.Piece.{Holds};
 ghost use Rattle.mac_resource.specs.Elements.{readPower, powerOut, readGranting, grantingOut, readAllocation, allocationOut, readElements, elementsOut, powerRefusal, grantingRefusal, allocationRefusal, elementsRefusal, powerLen, grantingLen, allocationLen, elementsLen, allocationLenRefusal, powerRow, grantingRow, flagRow, flagsBits, flagsLen, elementsBits};
@@ -45,14 +47,14 @@ pub struct Elements {
     pub chan_alloc_element: ChannelAllocation,
 }
 
-// Each as a part of a header, and the offset after it.
+// Each as a part of a header; behind the last one stands the offset after it.
 pub enum PowerPart {
-    Read(PowerControl, usize),
+    Read(PowerControl),
     Refused(Refusal),
 }
 
 pub enum GrantingPart {
-    Read(SlotGranting, usize),
+    Read(SlotGranting),
     Refused(Refusal),
 }
 
@@ -66,72 +68,70 @@ pub enum ElementsPart {
     Refused(Refusal),
 }
 
-// The power control flag at the offset o of a header, and the element where it is set.
-fn read_power(s: &[u8], c: Cursor, o: usize) -> PowerPart
-    requires { ⌜ Good (length (now s)) c ⌝ }
-    ensures { λ r. ⌜ Reads powerOut readPower (within (now (s .entry)) c) o r ⌝ }
+// The power control flag that is ahead, and the element where it is set.
+fn read_power(a: Ahead) -> PowerPart
+    requires { ⌜ Ready a 5 ⌝ }
+    ensures { λ r. ⌜ ReadsNext (powerOut (a .at)) readPower a r ⌝ }
 {
-    let left = codec::left(s, c, o);
+    let left = a.left;
     if left < 1 {
         return PowerPart::Refused(Refusal {
             number: refusal::READ_PAST_END,
-            bit: o,
+            bit: a.at,
         });
     }
-    let flag = codec::word(s, c, o, 1);
-    let o1 = o + 1;
-    if flag == 0 {
-        return PowerPart::Read(PowerControl::Without, o1);
+    if codec::take(a, 1) == 0 {
+        return PowerPart::Read(PowerControl::Without);
     }
+    let b = codec::on(a, 1);
     if left < 5 {
         return PowerPart::Refused(Refusal {
             number: refusal::READ_PAST_END,
-            bit: o1,
+            bit: b.at,
         });
     }
-    let level = codec::word(s, c, o1, 4);
-    PowerPart::Read(PowerControl::Level(level as u8), o1 + 4)
+    let level = codec::take(b, 4);
+    PowerPart::Read(PowerControl::Level(level as u8))
 }
 
-// The slot granting flag at the offset o of a header, and the element where it is set.
-fn read_granting(s: &[u8], c: Cursor, o: usize) -> GrantingPart
-    requires { ⌜ Good (length (now s)) c ⌝ }
-    ensures { λ r. ⌜ Reads grantingOut readGranting (within (now (s .entry)) c) o r ⌝ }
+// The slot granting flag that is ahead, and the element where it is set.
+fn read_granting(a: Ahead) -> GrantingPart
+    requires { ⌜ Ready a 9 ⌝ }
+    ensures { λ r. ⌜ ReadsNext (grantingOut (a .at)) readGranting a r ⌝ }
 {
-    if codec::left(s, c, o) < 1 {
+    let left = a.left;
+    if left < 1 {
         return GrantingPart::Refused(Refusal {
             number: refusal::READ_PAST_END,
-            bit: o,
+            bit: a.at,
         });
     }
-    let flag = codec::word(s, c, o, 1);
-    let o1 = o + 1;
-    if flag == 0 {
-        return GrantingPart::Read(SlotGranting::Without, o1);
+    if codec::take(a, 1) == 0 {
+        return GrantingPart::Read(SlotGranting::Without);
     }
-    match basic_slotgrant::read_slotgrant(s, c, o1) {
-        SlotgrantPart::Read(g, n) => GrantingPart::Read(SlotGranting::Element(g), n),
+    match basic_slotgrant::read_slotgrant(codec::on(a, 1)) {
+        SlotgrantPart::Read(g) => GrantingPart::Read(SlotGranting::Element(g)),
         SlotgrantPart::Refused(r) => GrantingPart::Refused(r),
     }
 }
 
-// The channel allocation flag at the offset o of a header, and the element where it is set.
-fn read_allocation(s: &[u8], c: Cursor, o: usize) -> AllocationPart
-    requires { ⌜ Good (length (now s)) c ⌝ }
-    ensures { λ r. ⌜ Reads allocationOut readAllocation (within (now (s .entry)) c) o r ⌝ }
+// The channel allocation flag that is ahead, and the element where it is set.
+fn read_allocation(a: Ahead) -> AllocationPart
+    requires { ⌜ Ready a 28 ⌝ }
+    ensures { λ r. ⌜ ReadsNext allocationOut readAllocation a r ⌝ }
 {
-    if codec::left(s, c, o) < 1 {
+    let left = a.left;
+    if left < 1 {
         return AllocationPart::Refused(Refusal {
             number: refusal::READ_PAST_END,
-            bit: o,
+            bit: a.at,
         });
     }
-    let flag = codec::word(s, c, o, 1);
-    let o1 = o + 1;
-    if flag == 0 {
-        return AllocationPart::Read(ChannelAllocation::Without, o1);
+    let b = codec::on(a, 1);
+    if codec::take(a, 1) == 0 {
+        return AllocationPart::Read(ChannelAllocation::Without, b.at);
     }
-    match channel_allocation::read_channel_allocation(s, c, o1) {
+    match channel_allocation::read_channel_allocation(b) {
         ChannelAllocationPart::Read(e, n) => {
             AllocationPart::Read(ChannelAllocation::Element(e), n)
         }
@@ -144,34 +144,43 @@ fn read_each(s: &[u8], c: Cursor, o: usize) -> ElementsPart
     requires { ⌜ Good (length (now s)) c ⌝ }
     ensures { λ r. ⌜ Reads elementsOut readElements (within (now (s .entry)) c) o r ⌝ }
 {
-    match read_power(s, c, o) {
+    let a = codec::load(s, c, o);
+    match read_power(a) {
         PowerPart::Refused(r) => ElementsPart::Refused(r),
-        PowerPart::Read(power_control_element, o1) => match read_granting(s, c, o1) {
-            GrantingPart::Refused(r) => ElementsPart::Refused(r),
-            GrantingPart::Read(slot_granting_element, o2) => match read_allocation(s, c, o2) {
-                AllocationPart::Refused(r) => ElementsPart::Refused(r),
-                AllocationPart::Read(chan_alloc_element, o3) => ElementsPart::Read(
-                    Elements {
-                        power_control_element,
-                        slot_granting_element,
-                        chan_alloc_element,
-                    },
-                    o3,
-                ),
-            },
-        },
+        PowerPart::Read(power_control_element) => {
+            let b = codec::on(a, power_len(power_control_element));
+            match read_granting(b) {
+                GrantingPart::Refused(r) => ElementsPart::Refused(r),
+                GrantingPart::Read(slot_granting_element) => {
+                    let d = codec::on(b, granting_len(slot_granting_element));
+                    match read_allocation(d) {
+                        AllocationPart::Refused(r) => ElementsPart::Refused(r),
+                        AllocationPart::Read(chan_alloc_element, n) => ElementsPart::Read(
+                            Elements {
+                                power_control_element,
+                                slot_granting_element,
+                                chan_alloc_element,
+                            },
+                            n,
+                        ),
+                    }
+                }
+            }
+        }
     }
 }
 
-// The elements at the offset o of a header. Most headers have none: then the three flags are one word.
-pub(crate) fn read_elements(s: &[u8], c: Cursor, o: usize) -> ElementsPart
-    requires { ⌜ Good (length (now s)) c ⌝ }
-    ensures { λ r. ⌜ Reads elementsOut readElements (within (now (s .entry)) c) o r ⌝ }
+// The elements that are ahead. Most headers have none: then the three flags are one word.
+pub(crate) fn read_elements(s: &[u8], c: Cursor, a: Ahead) -> ElementsPart
+    requires { ⌜ Good (length (now s)) c × Held (within (now s) c) a × Ready a 3 ⌝ }
+    ensures { λ r. ⌜ Reads elementsOut readElements (within (now (s .entry)) c) (a .at) r ⌝ }
 {
-    if codec::left(s, c, o) < 3 {
+    let left = a.left;
+    let o = a.at;
+    if left < 3 {
         return read_each(s, c, o);
     }
-    if codec::word(s, c, o, 3) != 0 {
+    if codec::take(a, 3) != 0 {
         return read_each(s, c, o);
     }
     ElementsPart::Read(

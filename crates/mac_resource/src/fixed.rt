@@ -2,13 +2,11 @@
 use crate::enums::mac_resource_addr_type as addr_type;
 use crate::enums::mac_resource_addr_type::MacResourceAddrType;
 use crate::piece::Piece;
-use tetra_core::bitbuffer::Cursor;
+use codec::Ahead;
 use tetra_core::refusal;
 use tetra_core::refusal::Refusal;
 ghost use Prim.Native.Nat.{_<_};
-ghost use lib.ListN.{length};
-ghost use Rattle.tetra_core.specs.Laws.Windows.{Good};
-ghost use Rattle.codec.specs.Header.{within, Reads};
+ghost use Rattle.codec.specs.Ahead.{Ready, ReadsNext};
 ghost use Rattle.codec.specs.Row.{rowBits};
 ghost use Rattle.mac_resource.specs.Piece.{Holds};
 ghost use Rattle.mac_resource.specs.Fixed.{readFixed, fixedOut, fixedRow, FixedFits};
@@ -22,18 +20,19 @@ pub struct Fixed {
     pub addr_type: MacResourceAddrType,
 }
 
-// The first 16 bits as a part of a header, and the offset after them.
+// The first 16 bits as a part of a header.
 pub enum FixedPart {
-    Read(Fixed, usize),
+    Read(Fixed),
     Refused(Refusal),
 }
 
-// The first 16 bits of a header, from the offset o on. The type is judged before any later field is missed.
-pub(crate) fn read_fixed(s: &[u8], c: Cursor, o: usize) -> FixedPart
-    requires { ⌜ Good (length (now s)) c ⌝ }
-    ensures { λ r. ⌜ Reads fixedOut readFixed (within (now (s .entry)) c) o r ⌝ }
+// The first 16 bits of a header, which are ahead. The type is judged before any later field is missed.
+pub(crate) fn read_fixed(a: Ahead) -> FixedPart
+    requires { ⌜ Ready a 16 ⌝ }
+    ensures { λ r. ⌜ ReadsNext (fixedOut (a .at)) readFixed a r ⌝ }
 {
-    let left = codec::left(s, c, o);
+    let left = a.left;
+    let o = a.at;
     if left < 2 {
         return FixedPart::Refused(Refusal {
             number: refusal::READ_PAST_END,
@@ -41,7 +40,7 @@ pub(crate) fn read_fixed(s: &[u8], c: Cursor, o: usize) -> FixedPart
         });
     }
     if left < 16 {
-        if codec::word(s, c, o, 2) != 0 {
+        if codec::take(a, 2) != 0 {
             return FixedPart::Refused(Refusal {
                 number: refusal::WRONG_PDU_TYPE,
                 bit: o,
@@ -50,24 +49,21 @@ pub(crate) fn read_fixed(s: &[u8], c: Cursor, o: usize) -> FixedPart
         let widths = [1u8, 1, 2, 1, 6, 3];
         return FixedPart::Refused(codec::short(&widths, left - 2, o + 2));
     }
-    let x = codec::word(s, c, o, 16);
+    let x = codec::take(a, 16);
     if (x >> 14) % 4 != 0 {
         return FixedPart::Refused(Refusal {
             number: refusal::WRONG_PDU_TYPE,
             bit: o,
         });
     }
-    FixedPart::Read(
-        Fixed {
-            fill_bits: (x >> 13) % 2 != 0,
-            pos_of_grant: ((x >> 12) % 2) as u8,
-            encryption_mode: ((x >> 10) % 4) as u8,
-            random_access_flag: (x >> 9) % 2 != 0,
-            length_ind: ((x >> 3) % 64) as u8,
-            addr_type: addr_type::from_raw(x % 8),
-        },
-        o + 16,
-    )
+    FixedPart::Read(Fixed {
+        fill_bits: (x >> 13) % 2 != 0,
+        pos_of_grant: ((x >> 12) % 2) as u8,
+        encryption_mode: ((x >> 10) % 4) as u8,
+        random_access_flag: (x >> 9) % 2 != 0,
+        length_ind: ((x >> 3) % 64) as u8,
+        addr_type: addr_type::from_raw(x % 8),
+    })
 }
 
 // The first 16 bits as one number.

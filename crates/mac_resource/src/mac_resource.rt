@@ -176,19 +176,24 @@ pub fn read_mac_resource(s: &[u8], c: Cursor, o: usize) -> MacResourcePart
     requires { ⌜ Good (length (now s)) c ⌝ }
     ensures { λ r. ⌜ Reads macResourceOut readMacResource (within (now (s .entry)) c) o r ⌝ }
 {
-    match fixed::read_fixed(s, c, o) {
+    let a = codec::load(s, c, o);
+    match fixed::read_fixed(a) {
         FixedPart::Refused(r) => MacResourcePart::Refused(r),
-        FixedPart::Read(f, o1) => {
+        FixedPart::Read(f) => {
+            let b = codec::on(a, 16);
             let t = f.addr_type;
-            match address::read_address(s, c, o1, t) {
+            match address::read_address(b, t) {
                 AddressPart::Refused(r) => MacResourcePart::Refused(r),
-                AddressPart::Read(a, o2) => {
-                    if address::is_null(a) {
-                        return MacResourcePart::Read(null_of(f.length_ind), o2);
+                AddressPart::Read(addr) => {
+                    let d = codec::on(b, address::address_len(t));
+                    if address::is_null(addr) {
+                        return MacResourcePart::Read(null_of(f.length_ind), d.at);
                     }
-                    match elements::read_elements(s, c, o2) {
+                    match elements::read_elements(s, c, d) {
                         ElementsPart::Refused(r) => MacResourcePart::Refused(r),
-                        ElementsPart::Read(e, o3) => MacResourcePart::Read(header_of(f, a, e), o3),
+                        ElementsPart::Read(e, n) => {
+                            MacResourcePart::Read(header_of(f, addr, e), n)
+                        }
                     }
                 }
             }

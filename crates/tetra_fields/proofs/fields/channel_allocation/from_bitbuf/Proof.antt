@@ -1,7 +1,7 @@
 use borrow.Author.Needs.{needs}
 use Rattle.tetra_core.specs.Laws.Windows.{good-facts}
 use Rattle.codec.specs.Header.{bad-seen, good-seen, ends}
-use Rattle.codec.specs.Ahead.{first-read}
+use Rattle.codec.specs.Ahead.{next-read}
 use Rattle.tetra_fields.specs.ChannelAllocation.{readChannelAllocation, channelAllocationOut, channelAllocationAt}
 use Rattle.tetra_fields.proofs.fields.channel_allocation.from_bitbuf.Statement.{statement}
 use Rattle.tetra_fields.proofs.fields.channel_allocation.from_bitbuf.Tie as tie
@@ -18,7 +18,7 @@ moved-by-requires c κs =
     let r = c .before .before .before in
     let l = r .before in
     ends readChannelAllocation _ _ (good-facts _ _ (good-seen _ _ (l .before .before .good-window .ensures) (l .before .if1 .left)))
-    (first-read (λ _. channelAllocationOut) (r .read-channel-allocation .ensures) (l .load .ensures .0) (l .load .ensures .2) (c .before .e .given .1))
+    (next-read (λ _. channelAllocationOut) (r .read-channel-allocation .ensures) (l .load .ensures .0) (l .load .ensures .2) (c .before .e .given .1))
 
 returns-2 : tie.Need-returns-2
 unfolding channelAllocationAt
@@ -29,7 +29,7 @@ returns-2 c =
     rw (
       c .moved-by .ensures,
       good-seen _ _ (l .before .before .good-window .ensures) (l .before .if1 .left),
-      first-read (λ _. channelAllocationOut) (r .read-channel-allocation .ensures) (l .load .ensures .0) (l .load .ensures .2) (m .e .given .1),
+      next-read (λ _. channelAllocationOut) (r .read-channel-allocation .ensures) (l .load .ensures .0) (l .load .ensures .2) (m .e .given .1),
     )
 
 returns-3 : tie.Need-returns-3
@@ -39,7 +39,7 @@ returns-3 c =
     let l = r .before in
     rw (
       good-seen _ _ (l .before .before .good-window .ensures) (l .before .if1 .left),
-      first-read (λ _. channelAllocationOut) (r .read-channel-allocation .ensures) (l .load .ensures .0) (l .load .ensures .2) (c .before .r .given .1),
+      next-read (λ _. channelAllocationOut) (r .read-channel-allocation .ensures) (l .load .ensures .0) (l .load .ensures .2) (c .before .r .given .1),
     )
 
 pub from-bitbuf-spec : {M : Type 1} → statement M
