@@ -39,9 +39,16 @@ fixedWords h =
 abbrev pub addressWords : TetraAddress → List ℕ
 addressWords a = addressType a ∷ addressKind a ∷ addressFirst a ∷ addressSecond a ∷ []
 
+abbrev pub powerPresent : PowerControl → ℕ
+powerPresent PowerControl.Without = 0
+powerPresent (PowerControl.Level v) = 1
+
+abbrev pub powerLevel : PowerControl → ℕ
+powerLevel PowerControl.Without = 0
+powerLevel (PowerControl.Level v) = v
+
 abbrev pub powerWords : PowerControl → List ℕ
-powerWords PowerControl.Without = 0 ∷ 0 ∷ []
-powerWords (PowerControl.Level v) = 1 ∷ v ∷ []
+powerWords p = powerPresent p ∷ powerLevel p ∷ []
 
 abbrev pub grantingWords : SlotGranting → List ℕ
 grantingWords SlotGranting.Without = 0 ∷ 0 ∷ 0 ∷ 0 ∷ []
@@ -59,27 +66,29 @@ macResourceWords h =
 
 -- ---- the MAC-RESOURCE of words
 
--- the words of an element, n from the word i on
+-- n words from the word i on
 abbrev pub part : List ℕ → ℕ → ℕ → List ℕ
 part ws i n = take n (drop i ws)
 
+-- an element's words are its flag and those behind it, which are not looked at where the flag is 0
 unfoldable pub grantingKnown : List ℕ → Bool
-grantingKnown ws = cond (eqb (word ws 11) 0) true (slotgrantKnown (part ws 12 3))
+grantingKnown ws = cond (eqb (word ws 0) 0) true (slotgrantKnown (part ws 1 3))
 
 unfoldable pub allocationKnown : List ℕ → Bool
-allocationKnown ws = cond (eqb (word ws 15) 0) true (channelAllocationKnown (part ws 16 9))
+allocationKnown ws = cond (eqb (word ws 0) 0) true (channelAllocationKnown (part ws 1 9))
 
 unfoldable pub macResourceKnown : List ℕ → Bool
-macResourceKnown ws = leb 25 (length ws) && (addressKnown (word ws 5) (word ws 6) && (grantingKnown ws && allocationKnown ws))
+macResourceKnown ws =
+    leb 25 (length ws) && (addressKnown (word ws 5) (word ws 6) && (grantingKnown (part ws 11 4) && allocationKnown (part ws 15 10)))
 
 unfoldable pub powerValue : ℕ → ℕ → PowerControl
 powerValue present v = cond (eqb present 0) PowerControl.Without (PowerControl.Level v)
 
 unfoldable pub grantingValue : List ℕ → SlotGranting
-grantingValue ws = cond (eqb (word ws 11) 0) SlotGranting.Without (SlotGranting.Element (slotgrantValue (part ws 12 3)))
+grantingValue ws = cond (eqb (word ws 0) 0) SlotGranting.Without (SlotGranting.Element (slotgrantValue (part ws 1 3)))
 
 unfoldable pub allocationValue : List ℕ → ChannelAllocation
-allocationValue ws = cond (eqb (word ws 15) 0) ChannelAllocation.Without (ChannelAllocation.Element (channelAllocationValue (part ws 16 9)))
+allocationValue ws = cond (eqb (word ws 0) 0) ChannelAllocation.Without (ChannelAllocation.Element (channelAllocationValue (part ws 1 9)))
 
 unfoldable pub macResourceValue : List ℕ → MacResource
 macResourceValue ws =
@@ -91,8 +100,8 @@ macResourceValue ws =
       «length_ind» = min (word ws 4) 255;
       addr = addressValue (word ws 5) (word ws 6) (word ws 7) (word ws 8);
       «power_control_element» = powerValue (word ws 9) (min (word ws 10) 255);
-      «slot_granting_element» = grantingValue ws;
-      «chan_alloc_element» = allocationValue ws;
+      «slot_granting_element» = grantingValue (part ws 11 4);
+      «chan_alloc_element» = allocationValue (part ws 15 10);
     }
 
 abbrev pub macResourceOfWords : List ℕ → Option MacResource

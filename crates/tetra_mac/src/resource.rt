@@ -19,7 +19,7 @@ ghost use Prim.Native.Nat.{_≤_};
 ghost use lib.ListN.{length};
 ghost use lib.Seq.{sets};
 ghost use Rattle.tetra_mac.specs.Reply.{replied, wrote, window, givenReply};
-ghost use Rattle.tetra_mac.specs.MacResource.{fixedWords, addressWords, powerWords, grantingWords, allocationWords, macResourceWords, powerValue, grantingKnown, grantingValue, allocationKnown, allocationValue, macResourceKnown, macResourceValue, macResourceReadReply, macResourceWriteReply, headerLenReply, updateLenReply};
+ghost use Rattle.tetra_mac.specs.MacResource.{fixedWords, addressWords, powerPresent, powerLevel, powerWords, grantingWords, allocationWords, macResourceWords, powerValue, grantingKnown, grantingValue, allocationKnown, allocationValue, macResourceKnown, macResourceValue, macResourceReadReply, macResourceWriteReply, headerLenReply, updateLenReply};
 
 fn fixed_words(h: MacResource) -> [u64; 5]
     ensures { λ r. ⌜ r ≡ fixedWords h ⌝ }
@@ -44,13 +44,28 @@ fn address_words(a: TetraAddress) -> [u64; 4]
     ]
 }
 
+fn power_present(p: PowerControl) -> u64
+    ensures { λ r. ⌜ r ≡ powerPresent p ⌝ }
+{
+    match p {
+        PowerControl::Without => 0,
+        PowerControl::Level(_) => 1,
+    }
+}
+
+fn power_level(p: PowerControl) -> u64
+    ensures { λ r. ⌜ r ≡ powerLevel p ⌝ }
+{
+    match p {
+        PowerControl::Without => 0,
+        PowerControl::Level(v) => v as u64,
+    }
+}
+
 fn power_words(p: PowerControl) -> [u64; 2]
     ensures { λ r. ⌜ r ≡ powerWords p ⌝ }
 {
-    match p {
-        PowerControl::Without => [0, 0],
-        PowerControl::Level(v) => [1, v as u64],
-    }
+    [power_present(p), power_level(p)]
 }
 
 // Each optional element has its words behind its flag, at a place of its own in out.
@@ -109,25 +124,25 @@ fn give_mac_resource(out: &mut [u64], at: usize, h: MacResource) -> u64
     0
 }
 
-// Whether an element that a record has is known.
+// Whether the words of an element, its flag and those behind it, have no unknown code. Those behind a flag of 0 are not looked at.
 fn granting_known(words: &[u64]) -> bool
-    requires { ⌜ 25 ≤ length (now words) ⌝ }
+    requires { ⌜ 4 ≤ length (now words) ⌝ }
     ensures { λ r. ⌜ r ≡ grantingKnown (now (words .entry)) ⌝ }
 {
-    if words[11] == 0 {
+    if words[0] == 0 {
         return true;
     }
-    slotgrant::slotgrant_known(&words[12..15])
+    slotgrant::slotgrant_known(&words[1..4])
 }
 
 fn allocation_known(words: &[u64]) -> bool
-    requires { ⌜ 25 ≤ length (now words) ⌝ }
+    requires { ⌜ 10 ≤ length (now words) ⌝ }
     ensures { λ r. ⌜ r ≡ allocationKnown (now (words .entry)) ⌝ }
 {
-    if words[15] == 0 {
+    if words[0] == 0 {
         return true;
     }
-    channel_allocation::channel_allocation_known(&words[16..25])
+    channel_allocation::channel_allocation_known(&words[1..10])
 }
 
 // Whether words are long enough for a MAC-RESOURCE and have no unknown code.
@@ -140,10 +155,10 @@ fn mac_resource_known(words: &[u64]) -> bool
     if !address::address_known(words[5], words[6]) {
         return false;
     }
-    if !granting_known(words) {
+    if !granting_known(&words[11..15]) {
         return false;
     }
-    allocation_known(words)
+    allocation_known(&words[15..25])
 }
 
 fn power_value(present: u64, v: u8) -> PowerControl
@@ -156,23 +171,23 @@ fn power_value(present: u64, v: u8) -> PowerControl
 }
 
 fn granting_value(words: &[u64]) -> SlotGranting
-    requires { ⌜ 25 ≤ length (now words) ⌝ }
+    requires { ⌜ 4 ≤ length (now words) ⌝ }
     ensures { λ r. ⌜ r ≡ grantingValue (now (words .entry)) ⌝ }
 {
-    if words[11] == 0 {
+    if words[0] == 0 {
         return SlotGranting::Without;
     }
-    SlotGranting::Element(slotgrant::slotgrant_value(&words[12..15]))
+    SlotGranting::Element(slotgrant::slotgrant_value(&words[1..4]))
 }
 
 fn allocation_value(words: &[u64]) -> ChannelAllocation
-    requires { ⌜ 25 ≤ length (now words) ⌝ }
+    requires { ⌜ 10 ≤ length (now words) ⌝ }
     ensures { λ r. ⌜ r ≡ allocationValue (now (words .entry)) ⌝ }
 {
-    if words[15] == 0 {
+    if words[0] == 0 {
         return ChannelAllocation::Without;
     }
-    ChannelAllocation::Element(channel_allocation::channel_allocation_value(&words[16..25]))
+    ChannelAllocation::Element(channel_allocation::channel_allocation_value(&words[1..10]))
 }
 
 // The MAC-RESOURCE of words whose codes are known.
@@ -188,8 +203,8 @@ fn mac_resource_value(words: &[u64]) -> MacResource
         length_ind: record::number8(words[4]),
         addr: address::address_value(words[5], words[6], words[7], words[8]),
         power_control_element: power_value(words[9], record::number8(words[10])),
-        slot_granting_element: granting_value(words),
-        chan_alloc_element: allocation_value(words),
+        slot_granting_element: granting_value(&words[11..15]),
+        chan_alloc_element: allocation_value(&words[15..25]),
     }
 }
 
