@@ -50,6 +50,10 @@ powerLevel (PowerControl.Level v) = v
 abbrev pub powerWords : PowerControl → List ℕ
 powerWords p = powerPresent p ∷ powerLevel p ∷ []
 
+-- the words 0 to 10
+abbrev pub frontWords : MacResource → List ℕ
+frontWords h = fixedWords h ++ (addressWords (h .addr) ++ powerWords (h .«power_control_element»))
+
 abbrev pub grantingWords : SlotGranting → List ℕ
 grantingWords SlotGranting.Without = 0 ∷ 0 ∷ 0 ∷ 0 ∷ []
 grantingWords (SlotGranting.Element g) = 1 ∷ slotgrantWords g
@@ -59,10 +63,7 @@ allocationWords ChannelAllocation.Without = 0 ∷ 0 ∷ 0 ∷ 0 ∷ 0 ∷ 0 ∷ 
 allocationWords (ChannelAllocation.Element e) = 1 ∷ channelAllocationWords e
 
 abbrev pub macResourceWords : MacResource → List ℕ
-macResourceWords h =
-    fixedWords h
-    ++ (addressWords (h .addr)
-    ++ (powerWords (h .«power_control_element») ++ (grantingWords (h .«slot_granting_element») ++ allocationWords (h .«chan_alloc_element»))))
+macResourceWords h = frontWords h ++ (grantingWords (h .«slot_granting_element») ++ allocationWords (h .«chan_alloc_element»))
 
 -- ---- the MAC-RESOURCE of words
 
