@@ -1,5 +1,5 @@
 // The C interface: the calls of the bit buffer and of each header codec, on numbers and lent slices alone. A value crosses as a record, a
-// list of words of 64 bits; the first lines of each file say what its words are. The block is still to come.
+// list of words of 64 bits; the first lines of each file say what its words are. The block of mac_block has no calls here.
 pub mod access;
 mod address;
 pub mod assign;

@@ -71,7 +71,7 @@ fn power_words(p: PowerControl) -> [u64; 2]
     [power_present(p), power_level(p)]
 }
 
-// Puts the cursor's bit and the words that every MAC-RESOURCE has into out, a group at a time: an array of them all would be copied.
+// Puts the cursor's bit and the words 0 to 10 into out, a group at a time, so that no array of them all is built and copied.
 fn put_front(out: &mut [u64], at: usize, h: MacResource)
     requires { ⌜ 26 ≤ length (now out) ⌝ }
     ensures { λ r. ⌜ now (out .exit) ≡ putFirst (now (out .entry)) (at ∷ frontWords h) ⌝ }
