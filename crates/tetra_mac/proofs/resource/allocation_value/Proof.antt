@@ -1,0 +1,18 @@
+use borrow.Author.Needs.{needs}
+use borrow.Author.Tests.{eq-eqb, ne-eqb}
+use Rattle.tetra_mac.specs.MacResource.{allocationValue}
+use Rattle.tetra_mac.proofs.resource.allocation_value.Statement.{statement}
+use Rattle.tetra_mac.proofs.resource.allocation_value.Tie as tie
+
+pub allocation-value-spec : {M : Type 1} → statement M
+unfolding allocationValue
+allocation-value-spec =
+    tie.close
+    (tie.spec
+    (λ c. search needs)
+    (λ c. rw (eq-eqb _ 0 (c .if1 .taken)))
+    (λ c. search needs)
+    (λ c. search needs)
+    (λ c. search needs)
+    (λ c κs. search needs)
+    (λ c. rw (c .channel-allocation-value .ensures, ne-eqb _ 0 (c .before .before .if1 .left))))
