@@ -239,12 +239,26 @@ fn put_nine(s: &mut [u8], at: usize, o: usize, n: usize, v: u64)
     s[at + 8] = byte_replaced(b, k, 8 - k, v);
 }
 
+// The number v put into the n bits from pos on, which lie in one byte. A byte is sooner loaded and stored than a word of eight.
+fn put_in_byte(s: &mut [u8], pos: usize, n: usize, v: u64)
+    requires { ⌜ (pos + n ≤ 8 * length (now s)) × (pos % 8 + n ≤ 8) × (0 < n) ⌝ }
+    ensures { λ r. ⌜ now (s .exit) ≡ putBits (now (s .entry)) pos (bitsOfNat n v) ⌝ }
+{
+    let at = pos / 8;
+    let b = s[at];
+    s[at] = byte_replaced(b, n, 8 - pos % 8 - n, v);
+}
+
 // As put_by_bytes, by whole words where there are eight bytes.
 pub fn put_bits(s: &mut [u8], pos: usize, n: usize, v: u64)
     requires { ⌜ (pos + n ≤ 8 * length (now s)) × (n ≤ 64) × (pos ≤ 65536) × (v < 2 ^ n) ⌝ }
     ensures { λ r. ⌜ now (s .exit) ≡ putBits (now (s .entry)) pos (bitsOfNat n v) ⌝ }
 {
     if n == 0 {
+        return;
+    }
+    if pos % 8 + n <= 8 {
+        put_in_byte(s, pos, n, v);
         return;
     }
     if s.len() < 8 {
