@@ -2,7 +2,7 @@
 use Prim.Native.Nat.{ℕ}
 use mathlib.Core.Path.{_≡_, refl}
 use mathlib.Core.List.{List, [], _∷_}
-use Rattle.tetra_core.specs.Bits.{odd, val, bitsOfNat, bitsOf, pack, splice, bitsAt, putBits}
+use Rattle.bits.specs.Bits.{odd, val, bitsOfNat, bitsOf, pack, splice, bitsAt, putBits}
 use Rattle.tetra_core.specs.BitBuffer.{goodWindow}
 use Rattle.tetra_core.specs.Refusal.{first}
 use Rattle.tetra_core.specs.declared.bitbuffer.Cursor.{Cursor}

@@ -8,8 +8,8 @@ use native.Mathlib.Nat.{add-assoc, add-zero, mod-lt, mod-mod}
 use lib.ListN.{length, drop, length-drop}
 use lib.Seq.{drop-drop, drop-at}
 use lib.Pow.{pow-pos, shr-lt, shr-mod, shr-shr, shl-shr, mod-mod-pow}
-use Rattle.tetra_core.specs.Bits.{bitsOfNat}
-use Rattle.tetra_core.specs.Laws.Values.{length-bitsOfNat, bitsOfNat-add, bitsOfNat-mod, bits-zero}
+use Rattle.bits.specs.Bits.{bitsOfNat}
+use Rattle.bits.specs.Laws.Values.{length-bitsOfNat, bitsOfNat-add, bitsOfNat-mod, bits-zero}
 use Rattle.codec.specs.Reader.{Out, got, refused, fieldAt, field-short, Reader, run, inside}
 use Rattle.codec.specs.Feed.{Starts, short, shortAt, total}
 use Rattle.codec.specs.Header.{Word, Reads, read}

@@ -6,7 +6,7 @@ use mathlib.Core.Bool.{Bool, true, false, not}
 use native.Mathlib.Omega.{arith}
 use lib.ListN.{length, getD, List·getD-eq-default}
 use lib.Dec.{eqb}
-use Rattle.tetra_core.specs.Bits.{digit}
+use Rattle.bits.specs.Bits.{digit}
 
 -- a flag is set where its bit is not 0; `digit` is the bit that it is written as
 abbrev pub flag : ℕ → Bool

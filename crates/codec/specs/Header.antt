@@ -7,10 +7,10 @@ use native.Mathlib.Omega.{arith}
 use lib.ListN.{length, drop, length-drop}
 use lib.Seq.{drop-drop, drop-at}
 use borrow.Author.Tests.{not-true, not-false}
-use Rattle.tetra_core.specs.Bits.{bitsAt, getBits, bitsOfNat, val}
+use Rattle.bits.specs.Bits.{bitsAt, getBits, bitsOfNat, val}
 use Rattle.tetra_core.specs.BitBuffer.{goodWindow, remaining, moved}
-use Rattle.tetra_core.specs.Laws.Values.{bitsOfNat-val}
-use Rattle.tetra_core.specs.Laws.Reads.{length-bitsAt, bitsAt-add, getBits-lt}
+use Rattle.bits.specs.Laws.Values.{bitsOfNat-val}
+use Rattle.bits.specs.Laws.Reads.{length-bitsAt, bitsAt-add, getBits-lt}
 use Rattle.tetra_core.specs.Laws.Windows.{Good}
 use Rattle.tetra_core.specs.declared.bitbuffer.Cursor.{Cursor}
 use Rattle.tetra_core.specs.declared.refusal.Refusal.{Refusal}

@@ -9,8 +9,8 @@ use native.Mathlib.Nat.{add-zero, mod-eq-of-lt}
 use lib.ListN.{length, length-append}
 use lib.Arith.{digits-lt}
 use lib.Pow.{pow-add, high, low}
-use Rattle.tetra_core.specs.Bits.{bitsOfNat, putBits}
-use Rattle.tetra_core.specs.Laws.Values.{length-bitsOfNat, bitsOfNat-add, bitsOfNat-mod, bits-zero}
+use Rattle.bits.specs.Bits.{bitsOfNat, putBits}
+use Rattle.bits.specs.Laws.Values.{length-bitsOfNat, bitsOfNat-add, bitsOfNat-mod, bits-zero}
 
 -- a field of a width with its value
 pub data Cell : Type 0 where

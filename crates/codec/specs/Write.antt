@@ -8,7 +8,7 @@ use native.Mathlib.Omega.{arith}
 use lib.ListN.{length}
 use lib.Dec.{leb}
 use borrow.Author.Tests.{leb-true, le-leb}
-use Rattle.tetra_core.specs.Bits.{putBits}
+use Rattle.bits.specs.Bits.{putBits}
 use Rattle.tetra_core.specs.BitBuffer.{goodWindow, remaining, moved, moves, bytesAfter}
 use Rattle.tetra_core.specs.Refusal.{unless, first, first-none, passed}
 use Rattle.tetra_core.specs.Laws.Windows.{Good, good-facts, good-test, move-refused, move-done, bytes-refused, bytes-done}

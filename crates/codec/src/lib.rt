@@ -6,7 +6,7 @@ use tetra_core::refusal::Refusal;
 ghost use mathlib.Core.Path.{_≡_};
 ghost use Prim.Native.Nat.{_+_, _-_, _≤_, _<_};
 ghost use lib.ListN.{length};
-ghost use Rattle.tetra_core.specs.Bits.{digit};
+ghost use Rattle.bits.specs.Bits.{digit};
 ghost use Rattle.tetra_core.specs.BitBuffer.{moved, remaining};
 ghost use Rattle.tetra_core.specs.Laws.Windows.{Good};
 ghost use Rattle.codec.specs.Feed.{shortAt};
@@ -31,7 +31,7 @@ pub fn word(s: &[u8], c: Cursor, o: usize, n: usize) -> u64
     requires { ⌜ Good (length (now s)) c × (o + n ≤ remaining c) × (n ≤ 64) ⌝ }
     ensures { λ r. ⌜ Word (within (now (s .entry)) c) o n r ⌝ }
 {
-    tetra_core::word::get_bits(s, c.pos + o, n)
+    bits::word::get_bits(s, c.pos + o, n)
 }
 
 // The bits of a header from the offset at on: so many are left, and the first of them stand in a word, behind its used highest bits. Parts
@@ -57,7 +57,7 @@ pub fn load(s: &[u8], c: Cursor, o: usize) -> Ahead
             used: 0,
         };
     }
-    let n = tetra_core::word::least(left, 64);
+    let n = bits::word::least(left, 64);
     Ahead {
         at: o,
         left,
@@ -71,7 +71,7 @@ pub fn take(a: Ahead, n: usize) -> u64
     requires { ⌜ Ready a n × (0 < n) ⌝ }
     ensures { λ r. ⌜ NextBits a n r ⌝ }
 {
-    tetra_core::word::word_field(a.word, a.used, n)
+    bits::word::word_field(a.word, a.used, n)
 }
 
 // What is ahead n bits on.

@@ -1,4 +1,5 @@
 // Clause 21.4.2.1, MAC-ACCESS: PDU type 1, fill 1, encrypted 1, address type 2, address, option flag 1 and, if set, 6 bits more.
+use bits::word;
 use tetra_core::address::UplinkAddress;
 use tetra_core::bitbuffer;
 use tetra_core::bitbuffer::Cursor;
@@ -6,7 +7,6 @@ use tetra_core::bitbuffer::Moved;
 use tetra_core::bitbuffer::Outcome;
 use tetra_core::refusal;
 use tetra_core::refusal::Refusal;
-use tetra_core::word;
 use tetra_fields::enums::reservation_requirement;
 use tetra_fields::enums::reservation_requirement::ReservationRequirement;
 use tetra_fields::fields::uplink_head;

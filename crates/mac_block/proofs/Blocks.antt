@@ -9,11 +9,11 @@ use borrow.Author.Tests.{le-leb, leb-true}
 use lib.Dec.{leb}
 use lib.ListN.{length, getD, take, drop, take-append-drop}
 use lib.Seq.{take-append-le, drop-append-le, take-at, getD-take, getD-drop, length-take-le, drop-drop, ext-getD}
-use Rattle.tetra_core.specs.Bits.{bitsOf, splice, bitsAt, putBits}
-use Rattle.tetra_core.specs.Laws.Bytes.{length-bitsOf}
-use Rattle.tetra_core.specs.Laws.Splice.{length-splice, splice-before, splice-after}
-use Rattle.tetra_core.specs.Laws.Reads.{length-bitsAt}
-use Rattle.tetra_core.specs.Laws.Writes.{bitsOf-putBits}
+use Rattle.bits.specs.Bits.{bitsOf, splice, bitsAt, putBits}
+use Rattle.bits.specs.Laws.Bytes.{length-bitsOf}
+use Rattle.bits.specs.Laws.Splice.{length-splice, splice-before, splice-after}
+use Rattle.bits.specs.Laws.Reads.{length-bitsAt}
+use Rattle.bits.specs.Laws.Writes.{bitsOf-putBits}
 use Rattle.mac_block.specs.Codec.{Codec}
 use Rattle.mac_block.specs.Walk.{goodBlock, Entry, sizeIn, ownBits, stepAt, step, walkBy, walkFrom}
 use Rattle.mac_block.specs.Altered.{bitAt}

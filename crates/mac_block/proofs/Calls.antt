@@ -10,10 +10,10 @@ use native.Mathlib.Decide.{decLe}
 use borrow.Author.Tests.{lt-leb}
 use lib.Dec.{leb}
 use lib.ListN.{length}
-use Rattle.tetra_core.specs.Bits.{putBits, Bytes}
+use Rattle.bits.specs.Bits.{putBits, Bytes}
 use Rattle.tetra_core.specs.Quantity.{octetsOf}
 use Rattle.tetra_core.specs.Refusal.{unless, first}
-use Rattle.tetra_core.specs.Laws.Writes.{length-putBits, bytes-putBits, putBits-nil}
+use Rattle.bits.specs.Laws.Writes.{length-putBits, bytes-putBits, putBits-nil}
 use Rattle.tetra_core.specs.declared.bitbuffer.Outcome.{Outcome}
 use Rattle.mac_block.specs.Codec.{Codec, Laws}
 use Rattle.mac_block.specs.declared.writer.LengthIndication.{LengthIndication}

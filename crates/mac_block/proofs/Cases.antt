@@ -1,7 +1,7 @@
 -- Every row of specs/Cases.antt, computed.
 use mathlib.Core.Path.{_≡_, refl}
 use mathlib.Core.List.{map}
-use Rattle.tetra_core.specs.Bits.{odd, val, bitsOfNat, bitsOf, pack, splice, bitsAt, putBits}
+use Rattle.bits.specs.Bits.{odd, val, bitsOfNat, bitsOf, pack, splice, bitsAt, putBits}
 use Rattle.tetra_core.specs.Refusal.{first}
 use Rattle.codec.specs.Reader.{fieldAt}
 use Rattle.codec.specs.Row.{rowBits}

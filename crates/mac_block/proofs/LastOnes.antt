@@ -11,9 +11,9 @@ use borrow.Author.Tests.{eq-eqb, ne-eqb}
 use lib.Count.{trailingZeros, under}
 use lib.ListN.{length, length-append}
 use lib.Pow.{shr-lt}
-use Rattle.tetra_core.specs.Bits.{odd, bitsOfNat, bitsAt, getBits}
-use Rattle.tetra_core.specs.Laws.Values.{bits-zero, bits-suc, bits-of-zero, bitsOfNat-add, length-bitsOfNat}
-use Rattle.tetra_core.specs.Laws.Reads.{length-bitsAt, bitsAt-add, bitsOfNat-getBits, getBits-lt}
+use Rattle.bits.specs.Bits.{odd, bitsOfNat, bitsAt, getBits}
+use Rattle.bits.specs.Laws.Values.{bits-zero, bits-suc, bits-of-zero, bitsOfNat-add, length-bitsOfNat}
+use Rattle.bits.specs.Laws.Reads.{length-bitsAt, bitsAt-add, bitsOfNat-getBits, getBits-lt}
 use Rattle.mac_block.specs.declared.fill.LastOne.{LastOne}
 use Rattle.mac_block.specs.Read.{beforeLastOne, lastOne}
 use Rattle.mac_block.proofs.Lists.{no-one, before-none, before-some, before-fill}

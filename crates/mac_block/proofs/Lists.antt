@@ -7,7 +7,7 @@ use Prim.Native.Nat.{ℕ, zero, suc, _+_, _≤_, _<_}
 use native.Mathlib.Omega.{arith}
 use lib.ListN.{length, getD, take, drop, replicate, length-take, length-drop, length-replicate}
 use lib.Seq.{ext-getD, getD-take, getD-drop, take-take, take-append-seam}
-use Rattle.tetra_core.specs.Bits.{val}
+use Rattle.bits.specs.Bits.{val}
 use Rattle.mac_block.specs.Frame.{field}
 use Rattle.mac_block.specs.Read.{extend, beforeLastOne}
 use Rattle.mac_block.specs.Writer.{fillBits}

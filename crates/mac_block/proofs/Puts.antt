@@ -9,8 +9,8 @@ use borrow.Rule.Slice.PartMut.{putMid}
 use lib.Dec.{eqb}
 use lib.ListN.{length, take, drop, replicate, length-drop}
 use lib.Seq.{length-take-le}
-use Rattle.tetra_core.specs.Bits.{odd, bitsOfNat, putBits, Bytes}
-use Rattle.tetra_core.specs.Laws.Writes.{putBits-append, length-putBits}
+use Rattle.bits.specs.Bits.{odd, bitsOfNat, putBits, Bytes}
+use Rattle.bits.specs.Laws.Writes.{putBits-append, length-putBits}
 use Rattle.codec.specs.Lend.{lent}
 use Rattle.mac_block.specs.Writer.{flagOf, fillBits}
 

@@ -9,7 +9,7 @@ use borrow.Author.Tests.{le-leb, lt-leb, leb-true, eq-eqb, eqb-true, eqb-false}
 use lib.Dec.{leb, eqb}
 use lib.ListN.{length}
 use Rattle.tetra_core.specs.Refusal.{unless, first, first-none, first-here, first-skip, first-last, passed}
-use Rattle.tetra_core.specs.Laws.Reads.{length-bitsAt}
+use Rattle.bits.specs.Laws.Reads.{length-bitsAt}
 use Rattle.mac_block.specs.Codec.{Codec}
 use Rattle.mac_block.specs.Walk.{goodBlock}
 use Rattle.mac_block.specs.Writer.{goodBit, Writer, after, finishRefusal, finished, finishTo, Add, contentOf, total, totalOf, addCheck, addRefusal}

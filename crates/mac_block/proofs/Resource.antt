@@ -6,8 +6,8 @@ use Prim.Native.Nat.{ℕ, _≤_, _<_}
 use native.Mathlib.Nat.{mod-eq-of-lt}
 use native.Mathlib.Omega.{arith}
 use lib.ListN.{length}
-use Rattle.tetra_core.specs.Bits.{odd, val, bitsOfNat}
-use Rattle.tetra_core.specs.Laws.Values.{val-bitsOfNat}
+use Rattle.bits.specs.Bits.{odd, val, bitsOfNat}
+use Rattle.bits.specs.Laws.Values.{val-bitsOfNat}
 use Rattle.tetra_core.specs.declared.address.TetraAddress.{TetraAddress}
 use Rattle.codec.specs.Reader.{inside}
 use Rattle.codec.specs.Row.{rowBits, length-row}

@@ -10,8 +10,8 @@ use borrow.Author.Tests.{ltb-true, ltb-false}
 use lib.Dec.{ltb}
 use lib.ListN.{length, take, drop, length-drop, take-append-drop}
 use lib.Seq.{take-take, take-all}
-use Rattle.tetra_core.specs.Bits.{splice}
-use Rattle.tetra_core.specs.Laws.Splice.{length-splice, splice-at, splice-before}
+use Rattle.bits.specs.Bits.{splice}
+use Rattle.bits.specs.Laws.Splice.{length-splice, splice-at, splice-before}
 use Rattle.mac_block.specs.declared.frame.Frame.{Frame}
 use Rattle.mac_block.specs.Frame.{frame}
 use Rattle.mac_block.specs.Codec.{Codec, Laws}

@@ -9,8 +9,8 @@ use native.Mathlib.Omega.{arith}
 use borrow.Author.Tests.{le-leb, lt-leb}
 use lib.ListN.{length, take, drop}
 use lib.Seq.{drop-at}
-use Rattle.tetra_core.specs.Bits.{val, bitsAt, getBits}
-use Rattle.tetra_core.specs.Laws.Reads.{length-bitsAt, bitsAt-add, getBits-part}
+use Rattle.bits.specs.Bits.{val, bitsAt, getBits}
+use Rattle.bits.specs.Laws.Reads.{length-bitsAt, bitsAt-add, getBits-part}
 use Rattle.codec.specs.Reader.{Out, run}
 use Rattle.codec.specs.Header.{within}
 use Rattle.mac_resource.specs.declared.mac_resource.MacResource.{MacResource}

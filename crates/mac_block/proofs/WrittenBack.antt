@@ -9,8 +9,8 @@ use borrow.Author.Tests.{ltb-false, leb-true, leb-false, lt-ltb, le-ltb, lt-leb}
 use lib.Dec.{leb, ltb}
 use lib.ListN.{length, length-append}
 use lib.Seq.{drop-at}
-use Rattle.tetra_core.specs.Bits.{val, bitsOfNat, odd}
-use Rattle.tetra_core.specs.Laws.Values.{length-bitsOfNat}
+use Rattle.bits.specs.Bits.{val, bitsOfNat, odd}
+use Rattle.bits.specs.Laws.Values.{length-bitsOfNat}
 use Rattle.tetra_core.specs.Quantity.{octetsOf}
 use Rattle.mac_block.specs.declared.frame.Frame.{Frame}
 use Rattle.mac_block.specs.Frame.{field, countedFrame, resourceFrame, frameOf, frame}

@@ -4,7 +4,7 @@ use mathlib.Core.List.{List, [], _∷_, _++_}
 use Prim.Native.Nat.{ℕ, zero, suc, _+_, _-_, _*_, _%_, min}
 use lib.Dec.{leb, ltb, eqb}
 use lib.ListN.{length, replicate}
-use Rattle.tetra_core.specs.Bits.{bitsOfNat, bitsAt, putBits}
+use Rattle.bits.specs.Bits.{bitsOfNat, bitsAt, putBits}
 use Rattle.tetra_core.specs.Quantity.{octetsOf}
 use Rattle.tetra_core.specs.Refusal.{unless, first}
 use Rattle.tetra_core.specs.BitBuffer.{outcome}

@@ -1,10 +1,10 @@
 // The fill of a PDU and of a block: a 1, then zeros.
-use tetra_core::run;
-use tetra_core::word;
+use bits::run;
+use bits::word;
 ghost use mathlib.Core.Path.{_≡_};
 ghost use Prim.Native.Nat.{_+_, _-_, _*_, _≤_};
 ghost use lib.ListN.{length};
-ghost use Rattle.tetra_core.specs.Bits.{bitsAt, putBits};
+ghost use Rattle.bits.specs.Bits.{bitsAt, putBits};
 ghost use Rattle.mac_block.specs.Read.{beforeLastOne, lastOne};
 ghost use Rattle.mac_block.specs.Writer.{fillBits};
 

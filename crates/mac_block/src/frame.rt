@@ -1,12 +1,12 @@
 // Where a PDU of a block ends, by the bits left, the type, the length and the address type alone.
+use bits::word;
 use tetra_core::quantity;
 use tetra_core::quantity::Octets;
 use tetra_core::refusal;
-use tetra_core::word;
 ghost use mathlib.Core.Path.{_≡_};
 ghost use Prim.Native.Nat.{_+_, _*_, _≤_};
 ghost use lib.ListN.{length};
-ghost use Rattle.tetra_core.specs.Bits.{bitsAt};
+ghost use Rattle.bits.specs.Bits.{bitsAt};
 ghost use Rattle.mac_block.specs.Frame.{countedFrame, frameOf, frame};
 
 // What begins at a bit of a block.

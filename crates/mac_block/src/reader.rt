@@ -12,7 +12,7 @@ use tetra_core::refusal::Refusal;
 ghost use mathlib.Core.Path.{_≡_};
 ghost use Prim.Native.Nat.{_+_, _*_, _≤_};
 ghost use lib.ListN.{length, drop};
-ghost use Rattle.tetra_core.specs.Bits.{bitsAt};
+ghost use Rattle.bits.specs.Bits.{bitsAt};
 ghost use Rattle.mac_block.specs.Read.{behindHeader, readOwn};
 ghost use Rattle.mac_block.specs.Walk.{step};
 ghost use Rattle.mac_block.specs.Resource.{resourceCodec};

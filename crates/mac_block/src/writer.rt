@@ -1,5 +1,7 @@
 // The writer of a block. Each call gets the bytes and the bit that the last one left.
 use crate::fill;
+use bits::run;
+use bits::word;
 use mac_resource::mac_resource as resource;
 use mac_resource::mac_resource::MacResource;
 use tetra_core::bitbuffer::Outcome;
@@ -7,12 +9,10 @@ use tetra_core::quantity;
 use tetra_core::quantity::OctetCount;
 use tetra_core::quantity::Octets;
 use tetra_core::refusal;
-use tetra_core::run;
-use tetra_core::word;
 ghost use mathlib.Core.Path.{_≡_};
 ghost use Prim.Native.Nat.{_+_, _*_, _≤_, _<_};
 ghost use lib.ListN.{length};
-ghost use Rattle.tetra_core.specs.Bits.{bitsAt, putBits};
+ghost use Rattle.bits.specs.Bits.{bitsAt, putBits};
 ghost use Rattle.tetra_core.specs.Quantity.{octetsOf};
 ghost use Rattle.mac_block.specs.Writer.{lengthOf, pduSize, goodBit, writerAt, finishBits, finishRefusal, finishTo, finishAnswer, addCheck, addRefusal, addBits, addOf, addTo, addAnswer};
 ghost use Rattle.mac_block.specs.Resource.{resourceCodec, Puttable};

@@ -5,7 +5,7 @@ use mathlib.Core.List.{List, [], _∷_, _++_}
 use mathlib.Core.Bool.{Bool, false}
 use lib.ListN.{length, drop, getD}
 use lib.Dec.{eqb, leb}
-use Rattle.tetra_core.specs.Bits.{digit}
+use Rattle.bits.specs.Bits.{digit}
 use Rattle.tetra_core.specs.Refusal.{unless}
 use Rattle.tetra_core.specs.declared.bitbuffer.Cursor.{Cursor}
 use Rattle.tetra_core.specs.declared.bitbuffer.Moved.{Moved}

@@ -11,9 +11,9 @@ use lib.Pow.{pow-add, pow-mono, shl-exact}
 use lib.ListN.{length}
 use mir.Syntax.{w64}
 use mir.Val.{Fits}
-use Rattle.tetra_core.specs.Bits.{putBits}
-use Rattle.tetra_core.specs.Laws.Values.{length-bitsOfNat}
-use Rattle.tetra_core.specs.Laws.Writes.{putBits-append}
+use Rattle.bits.specs.Bits.{putBits}
+use Rattle.bits.specs.Laws.Values.{length-bitsOfNat}
+use Rattle.bits.specs.Laws.Writes.{putBits-append}
 use Rattle.codec.specs.Row.{Cell, cell, rowBits, RowIs, join-bits}
 use Rattle.mac_resource.specs.Piece.{pieceBits, Holds}
 use Rattle.mac_resource.specs.declared.piece.Piece.{Piece}

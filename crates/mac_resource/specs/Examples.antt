@@ -3,7 +3,7 @@ use Prim.Native.Nat.{ℕ}
 use mathlib.Core.Path.{_≡_, refl}
 use mathlib.Core.List.{[], _∷_}
 use mathlib.Core.Bool.{true, false}
-use Rattle.tetra_core.specs.Bits.{odd, val, bitsOfNat, bitsOf, pack, splice, bitsAt, putBits}
+use Rattle.bits.specs.Bits.{odd, val, bitsOfNat, bitsOf, pack, splice, bitsAt, putBits}
 use Rattle.tetra_core.specs.BitBuffer.{goodWindow}
 use Rattle.tetra_core.specs.Quantity.{octetCount}
 use Rattle.tetra_core.specs.Refusal.{first}

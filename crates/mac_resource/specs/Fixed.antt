@@ -4,7 +4,7 @@ use Prim.Native.Nat.{ℕ, _+_, _<_}
 use mathlib.Core.List.{List, [], _∷_}
 use mathlib.Core.Bool.{Bool}
 use lib.ListN.{drop}
-use Rattle.tetra_core.specs.Bits.{digit}
+use Rattle.bits.specs.Bits.{digit}
 use Rattle.codec.specs.Reader.{Out, got, refused, Reader, done, refuse, field, here, choose, _>>=_}
 use Rattle.codec.specs.Row.{Cell, cell}
 use Rattle.codec.specs.Cases.{flag}

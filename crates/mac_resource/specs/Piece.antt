@@ -3,7 +3,7 @@ use Prim.Native.Nat.{ℕ, _^_, _<_}
 use mathlib.Core.Path.{_≡_}
 use mathlib.Core.List.{List}
 use mathlib.Core.Bool.{Bool}
-use Rattle.tetra_core.specs.Bits.{bitsOfNat}
+use Rattle.bits.specs.Bits.{bitsOfNat}
 use Rattle.mac_resource.specs.declared.piece.Piece.{Piece}
 
 abbrev pub pieceBits : Piece → List Bool

@@ -1,11 +1,11 @@
 // Clause 21.4.3.1, the optional elements: power control, slot granting and channel allocation, each behind a flag of its own.
 use crate::piece;
 use crate::piece::Piece;
+use bits::word;
 use codec::Ahead;
 use tetra_core::bitbuffer::Cursor;
 use tetra_core::refusal;
 use tetra_core::refusal::Refusal;
-use tetra_core::word;
 use tetra_fields::fields::basic_slotgrant;
 use tetra_fields::fields::basic_slotgrant::BasicSlotgrant;
 use tetra_fields::fields::basic_slotgrant::SlotgrantPart;
@@ -15,7 +15,7 @@ use tetra_fields::fields::channel_allocation::ChannelAllocationPart;
 ghost use mathlib.Core.Path.{_≡_};
 ghost use Prim.Native.Nat.{_+_, _*_, _≤_};
 ghost use lib.ListN.{length};
-ghost use Rattle.tetra_core.specs.Bits.{putBits};
+ghost use Rattle.bits.specs.Bits.{putBits};
 ghost use Rattle.tetra_core.specs.Laws.Windows.{Good};
 ghost use Rattle.codec.specs.Header.{within, Reads};
 ghost use Rattle.codec.specs.Ahead.{Held, Ready, ReadsNext};

@@ -1,5 +1,5 @@
 // Bits on their way to being written: several parts of a header become one number, and one write.
-use tetra_core::word;
+use bits::word;
 ghost use mathlib.Core.List.{_++_};
 ghost use Prim.Native.Nat.{_+_, _^_, _≤_, _<_};
 ghost use Rattle.mac_resource.specs.Piece.{pieceBits, Holds};

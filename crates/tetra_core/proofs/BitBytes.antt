@@ -10,11 +10,11 @@ use lib.Dec.{ltb}
 use lib.ListN.{length, getD, take, drop, set, length-map, length-drop}
 use lib.Pow.{pow-mono}
 use lib.Seq.{length-take-le, take-at, drop-at, take-add, take-suc, take-all, drop-cons, drop-drop, getD-drop, paste, paste-suc}
-use Rattle.tetra_core.specs.Bits.{digit, odd, val, bitsOfNat, bitsAt, getBits, putBits}
+use Rattle.bits.specs.Bits.{digit, odd, val, bitsOfNat, bitsAt, getBits, putBits}
 use Rattle.tetra_core.specs.BitBuffer.{areBits}
-use Rattle.tetra_core.specs.Laws.Values.{digit-odd, val-nil, val-cons, val-append, val-lt, bits-suc, length-bitsOfNat}
-use Rattle.tetra_core.specs.Laws.Reads.{bitsAt-add, length-bitsAt, bitsOfNat-getBits}
-use Rattle.tetra_core.proofs.Runs.{goes-on}
+use Rattle.bits.specs.Laws.Values.{digit-odd, val-nil, val-cons, val-append, val-lt, bits-suc, length-bitsOfNat}
+use Rattle.bits.specs.Laws.Reads.{bitsAt-add, length-bitsAt, bitsOfNat-getBits}
+use Rattle.bits.specs.Laws.Runs.{goes-on}
 
 -- the bit i of the k bits of x
 pub bit-at : (k i x : ℕ) → i < k → getD (map digit (bitsOfNat k x)) i 0 ≡ x / 2 ^ (k - 1 - i) % 2

@@ -5,7 +5,7 @@ use mathlib.Core.Bool.{Bool, true, false, _&&_}
 use lib.ListN.{length, replicate}
 use lib.IntN.{ℤ, pos, negsuc, _+ℤ_}
 use lib.Dec.{leb, ltb}
-use Rattle.tetra_core.specs.Bits.{digit, odd, bitsAt, getBits, putBits, bitsOfNat}
+use Rattle.bits.specs.Bits.{digit, odd, bitsAt, getBits, putBits, bitsOfNat}
 use Rattle.tetra_core.specs.Refusal.{unless, first}
 use Rattle.tetra_core.specs.Quantity.{octetsOf, fillOf}
 use Rattle.tetra_core.specs.declared.bitbuffer.Cursor.{Cursor}

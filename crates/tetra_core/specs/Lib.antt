@@ -1,4 +1,3 @@
-pub mod Bits
 pub mod Refusal
 pub mod Quantity
 pub mod Address

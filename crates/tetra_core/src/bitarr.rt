@@ -1,13 +1,13 @@
 // Bits one to a byte, and bits as whole bytes.
-use crate::run;
-use crate::word;
+use bits::run;
+use bits::word;
 ghost use mathlib.Core.Path.{_≡_};
 ghost use mathlib.Core.List.{_++_, map};
 ghost use mathlib.Core.Bool.{false};
 ghost use Prim.Native.Nat.{_+_, _-_, _*_, _≤_};
 ghost use lib.ListN.{length, take, drop, replicate};
 ghost use lib.Seq.{paste};
-ghost use Rattle.tetra_core.specs.Bits.{digit, odd, val, bitsAt, bitsOfNat, putBits};
+ghost use Rattle.bits.specs.Bits.{digit, odd, val, bitsAt, bitsOfNat, putBits};
 ghost use Rattle.tetra_core.specs.Quantity.{octetsOf, fillOf};
 ghost use Rattle.tetra_core.specs.BitBuffer.{areBits};
 

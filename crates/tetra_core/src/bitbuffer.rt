@@ -3,8 +3,8 @@
 use crate::bitarr;
 use crate::refusal;
 use crate::refusal::Refusal;
-use crate::run;
-use crate::word;
+use bits::run;
+use bits::word;
 ghost use mathlib.Core.Path.{_≡_};
 ghost use Prim.Native.Nat.{_+_, _-_, _*_, _^_, _≤_, _<_};
 ghost use mathlib.Core.Bool.{true, false};

@@ -4,5 +4,3 @@ pub mod bitarr;
 pub mod bitbuffer;
 pub mod quantity;
 pub mod refusal;
-pub mod run;
-pub mod word;

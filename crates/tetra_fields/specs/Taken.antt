@@ -9,8 +9,8 @@ use lib.ListN.{length, take, drop}
 use lib.Seq.{length-take-le, take-add}
 use lib.Dec.{leb, eqb}
 use borrow.Author.Tests.{leb-true, leb-false, eqb-true, eqb-false}
-use Rattle.tetra_core.specs.Bits.{val, bitsOfNat}
-use Rattle.tetra_core.specs.Laws.Values.{val-lt, bitsOfNat-val}
+use Rattle.bits.specs.Bits.{val, bitsOfNat}
+use Rattle.bits.specs.Laws.Values.{val-lt, bitsOfNat-val}
 use Rattle.tetra_core.specs.Laws.Windows.{and-both}
 use Rattle.codec.specs.Reader.{got, field-there, field-short, Reader, done, refuse, field, here, choose, run, _>>=_, inside}
 

@@ -6,7 +6,7 @@ use mathlib.Core.Bool.{Bool, not}
 use lib.ListN.{drop}
 use lib.Dec.{eqb}
 use Rattle.tetra_core.specs.Address.{uplinkAddressType}
-use Rattle.tetra_core.specs.Bits.{digit}
+use Rattle.bits.specs.Bits.{digit}
 use Rattle.tetra_core.specs.Refusal.{first}
 use Rattle.tetra_core.specs.declared.address.UplinkAddress.{UplinkAddress}
 use Rattle.codec.specs.Reader.{Out, got, refused, Reader, done, refuse, field, here, choose, _>>=_}

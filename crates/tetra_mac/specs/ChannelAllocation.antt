@@ -6,7 +6,7 @@ use mathlib.Core.Bool.{Bool, cond, _&&_}
 use mathlib.Core.Option.{Option}
 use lib.ListN.{length}
 use lib.Dec.{eqb, leb}
-use Rattle.tetra_core.specs.Bits.{digit}
+use Rattle.bits.specs.Bits.{digit}
 use Rattle.tetra_core.specs.declared.bitbuffer.Cursor.{Cursor}
 use Rattle.codec.specs.Cases.{flag}
 use Rattle.tetra_fields.specs.ChannelAllocation.{allocTypeNumber, allocTypeOf, ulDlNumber, ulDlOf, timeslotsNumber, timeslotsOf, frame18Number, channelAllocationAt, channelAllocationWrite, channelAllocationWritten, computeLen}

@@ -7,7 +7,7 @@ use mathlib.Core.Option.{Option}
 use lib.ListN.{length, getD}
 use lib.Dec.{leb, ltb}
 use Rattle.tetra_core.specs.Address.{uplinkAddressType}
-use Rattle.tetra_core.specs.Bits.{digit}
+use Rattle.bits.specs.Bits.{digit}
 use Rattle.tetra_core.specs.declared.bitbuffer.Cursor.{Cursor}
 use Rattle.codec.specs.Cases.{flag}
 use Rattle.tetra_fields.specs.ReservationRequirement.{reservationNumber, reservationOf}

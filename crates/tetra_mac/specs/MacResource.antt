@@ -8,7 +8,7 @@ use mathlib.Core.Option.{Option}
 use lib.ListN.{length, take, drop}
 use lib.Dec.{eqb, leb}
 use Rattle.tetra_core.specs.Address.{addressType}
-use Rattle.tetra_core.specs.Bits.{digit}
+use Rattle.bits.specs.Bits.{digit}
 use Rattle.tetra_core.specs.declared.address.TetraAddress.{TetraAddress}
 use Rattle.tetra_core.specs.declared.bitbuffer.Cursor.{Cursor}
 use Rattle.codec.specs.Cases.{flag}

@@ -9,13 +9,13 @@ use lib.ListN.{length, take, drop, take-append-drop}
 use lib.Seq.{length-take-le, take-take, drop-drop}
 use lib.Dec.{leb, lit<}
 use borrow.Author.Tests.{leb-true, leb-false}
-use Rattle.tetra_core.specs.Bits.{bitsOfNat, val, bitsOf, bitsAt, splice, putBits, Bytes}
+use Rattle.bits.specs.Bits.{bitsOfNat, val, bitsOf, bitsAt, splice, putBits, Bytes}
 use Rattle.tetra_core.specs.BitBuffer.{goodWindow, remaining, moved}
 use Rattle.tetra_core.specs.Refusal.{first, first-none}
-use Rattle.tetra_core.specs.Laws.Values.{bitsOfNat-val, val-lt}
-use Rattle.tetra_core.specs.Laws.Bytes.{bitsOf-inj}
-use Rattle.tetra_core.specs.Laws.Reads.{at-is, length-bitsAt}
-use Rattle.tetra_core.specs.Laws.Writes.{bytes-putBits, bitsOf-putBits}
+use Rattle.bits.specs.Laws.Values.{bitsOfNat-val, val-lt}
+use Rattle.bits.specs.Laws.Bytes.{bitsOf-inj}
+use Rattle.bits.specs.Laws.Reads.{at-is, length-bitsAt}
+use Rattle.bits.specs.Laws.Writes.{bytes-putBits, bitsOf-putBits}
 use Rattle.tetra_core.specs.Laws.Windows.{Good, good-facts}
 use Rattle.tetra_core.specs.declared.bitbuffer.Cursor.{Cursor}
 use Rattle.tetra_core.specs.declared.bitbuffer.Outcome.{Outcome}

@@ -8,10 +8,10 @@ use native.Mathlib.Nat.{zero-add}
 use lib.ListN.{length, take}
 use lib.Dec.{lit<}
 use borrow.Author.Tests.{leb-true, le-leb, eqb-true}
-use Rattle.tetra_core.specs.Bits.{Bytes}
+use Rattle.bits.specs.Bits.{Bytes}
 use Rattle.tetra_core.specs.BitBuffer.{moved}
 use Rattle.tetra_core.specs.Refusal.{passed}
-use Rattle.tetra_core.specs.Laws.Values.{digit-lt}
+use Rattle.bits.specs.Laws.Values.{digit-lt}
 use Rattle.tetra_core.specs.declared.bitbuffer.Cursor.{Cursor}
 use Rattle.tetra_core.specs.declared.bitbuffer.Outcome.the-variants.{Done}
 use Rattle.codec.specs.Reader.{got, run}

@@ -9,10 +9,10 @@ use lib.ListN.{length, take, getD, length-append}
 use lib.Seq.{getD-at}
 use lib.Dec.{lit<}
 use borrow.Author.Tests.{leb-true, le-leb, eqb-true}
-use Rattle.tetra_core.specs.Bits.{odd, bitsOfNat, bitsAt, Bytes}
+use Rattle.bits.specs.Bits.{odd, bitsOfNat, bitsAt, Bytes}
 use Rattle.tetra_core.specs.BitBuffer.{moved}
 use Rattle.tetra_core.specs.Refusal.{passed}
-use Rattle.tetra_core.specs.Laws.Values.{digit-lt}
+use Rattle.bits.specs.Laws.Values.{digit-lt}
 use Rattle.tetra_core.specs.declared.bitbuffer.Cursor.{Cursor}
 use Rattle.tetra_core.specs.declared.bitbuffer.Outcome.the-variants.{Done}
 use Rattle.codec.specs.Reader.{got, run}

@@ -7,7 +7,7 @@ use native.Mathlib.Omega.{arith}
 use lib.ListN.{take}
 use lib.Dec.{eqb}
 use borrow.Author.Tests.{eqb-true, eqb-false, not-true, not-false, lt-ltb}
-use Rattle.tetra_core.specs.Bits.{digit, bitsOfNat}
+use Rattle.bits.specs.Bits.{digit, bitsOfNat}
 use Rattle.tetra_core.specs.Refusal.{unless, first, first-skip, first-last}
 use Rattle.tetra_core.specs.declared.address.TetraAddress.{TetraAddress}
 use Rattle.codec.specs.Reader.{got, Reader, done, run}

@@ -7,8 +7,8 @@ use native.Mathlib.Nat.{mod-eq-of-lt}
 use lib.Dec.{lit<}
 use lib.ListN.{take, drop}
 use lib.Seq.{take-at, drop-at}
-use Rattle.tetra_core.specs.Bits.{digit, val, bitsOfNat}
-use Rattle.tetra_core.specs.Laws.Values.{digit-lt, length-bitsOfNat, val-bitsOfNat}
+use Rattle.bits.specs.Bits.{digit, val, bitsOfNat}
+use Rattle.bits.specs.Laws.Values.{digit-lt, length-bitsOfNat, val-bitsOfNat}
 use Rattle.codec.specs.Reader.{got, run}
 use Rattle.codec.specs.Row.{Cell, cell, size, rowBits, RowFits, length-row}
 use Rattle.codec.specs.Back.{gives}

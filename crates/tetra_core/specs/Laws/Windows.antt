@@ -7,11 +7,11 @@ use native.Mathlib.Omega.{arith}
 use borrow.Author.Tests.{leb-true, ltb-true, le-leb, lt-leb, lt-ltb}
 use lib.ListN.{length}
 use lib.Dec.{leb, ltb}
-use Rattle.tetra_core.specs.Bits.{getBits, bitsOfNat}
+use Rattle.bits.specs.Bits.{getBits, bitsOfNat}
 use Rattle.tetra_core.specs.Refusal.{unless, first, first-none, passed}
 use Rattle.tetra_core.specs.Quantity.{octetsOf}
 use Rattle.tetra_core.specs.BitBuffer.{roomRefusal, goodWindow, at, moved, after, answer, bytesAfter, reads, readRefused, moves, changed, peekAt, peekPlace, seekPlace, readRefusal, readBits, writeRefusal, written, outcome, copyRefusal, remaining, intoSliceRefusal, areBits, fromBitarrRefusal}
-use Rattle.tetra_core.specs.Laws.Writes.{length-putBits, getBits-putBits}
+use Rattle.bits.specs.Laws.Writes.{length-putBits, getBits-putBits}
 use Rattle.tetra_core.specs.declared.bitbuffer.Cursor.{Cursor}
 use Rattle.tetra_core.specs.declared.bitbuffer.BitsAnswer.the-variants.{Value, Refused}
 use Rattle.tetra_core.specs.declared.bitbuffer.Outcome.the-variants as Outcome'

@@ -8,13 +8,13 @@ use lib.ListN.{length, take, drop, getD, take-append-drop}
 use lib.Dec.{leb, eqb}
 use lib.Seq.{length-take-le, take-at, take-take, drop-drop}
 use borrow.Author.Tests.{leb-true, leb-false, eqb-true, eqb-false}
-use Rattle.tetra_core.specs.Bits.{digit, val, bitsOfNat, bitsOf, splice, bitsAt, putBits, Bytes}
+use Rattle.bits.specs.Bits.{digit, val, bitsOfNat, bitsOf, splice, bitsAt, putBits, Bytes}
 use Rattle.tetra_core.specs.BitBuffer.{goodWindow, remaining, moved}
-use Rattle.tetra_core.specs.Laws.Bytes.{bitsOf-inj}
-use Rattle.tetra_core.specs.Laws.Reads.{at-is, length-bitsAt}
-use Rattle.tetra_core.specs.Laws.Values.{val-lt, bitsOfNat-val}
+use Rattle.bits.specs.Laws.Bytes.{bitsOf-inj}
+use Rattle.bits.specs.Laws.Reads.{at-is, length-bitsAt}
+use Rattle.bits.specs.Laws.Values.{val-lt, bitsOfNat-val}
 use Rattle.tetra_core.specs.Laws.Windows.{Good, good-facts, and-both}
-use Rattle.tetra_core.specs.Laws.Writes.{bitsOf-putBits, bytes-putBits}
+use Rattle.bits.specs.Laws.Writes.{bitsOf-putBits, bytes-putBits}
 use Rattle.tetra_core.specs.declared.bitbuffer.Cursor.{Cursor}
 use Rattle.tetra_core.specs.declared.bitbuffer.Outcome.the-variants.{Done}
 use Rattle.tetra_core.specs.declared.refusal.Refusal.{Refusal}

@@ -9,10 +9,10 @@ use native.Mathlib.Nat.{add-assoc, zero-add}
 use lib.ListN.{length, take, length-append}
 use lib.Dec.{eqb, ltb, lit<}
 use borrow.Author.Tests.{ltb-true, eqb-true, eqb-false, lt-ltb, eq-eqb, ne-eqb, not-false}
-use Rattle.tetra_core.specs.Bits.{digit, bitsOfNat}
+use Rattle.bits.specs.Bits.{digit, bitsOfNat}
 use Rattle.tetra_core.specs.BitBuffer.{moved}
 use Rattle.tetra_core.specs.Refusal.{unless, first, first-none, passed}
-use Rattle.tetra_core.specs.Laws.Values.{digit-lt}
+use Rattle.bits.specs.Laws.Values.{digit-lt}
 use Rattle.tetra_core.specs.declared.bitbuffer.Cursor.{Cursor}
 use Rattle.codec.specs.Reader.{got, run}
 use Rattle.codec.specs.Feed.{field-alone}

@@ -4,7 +4,7 @@ use mathlib.Core.Path.{_≡_, refl, sym, _∙_}
 use mathlib.Core.List.{List, [], _∷_, _++_, append-assoc, append-nil}
 use lib.Arith.{digits-lt}
 use lib.Pow.{pow-add}
-use Rattle.tetra_core.specs.Bits.{bitsOfNat}
+use Rattle.bits.specs.Bits.{bitsOfNat}
 use Rattle.codec.specs.Row.{Cell, cell, rowBits, RowIs, join-rows}
 
 pub rows-append : (r q : List Cell) → rowBits (r ++ q) ≡ rowBits r ++ rowBits q

@@ -10,9 +10,9 @@ use lib.Arith.{digits-lt}
 use lib.Pow.{pow-add, pow-pos}
 use borrow.Author.Tests.{not-false, eqb-true, lt-ltb}
 use Rattle.tetra_core.specs.Address.{uplinkAddressType}
-use Rattle.tetra_core.specs.Bits.{digit, bitsOfNat}
+use Rattle.bits.specs.Bits.{digit, bitsOfNat}
 use Rattle.tetra_core.specs.Refusal.{first, first-none}
-use Rattle.tetra_core.specs.Laws.Values.{digit-lt}
+use Rattle.bits.specs.Laws.Values.{digit-lt}
 use Rattle.tetra_core.specs.declared.address.UplinkAddress.{UplinkAddress}
 use Rattle.codec.specs.Reader.{got, Reader, done, run, run-bind, _>>=_}
 use Rattle.codec.specs.Feed.{field-alone}

@@ -4,7 +4,7 @@ use mathlib.Core.List.{List, [], _∷_}
 use native.Mathlib.Omega.{arith}
 use lib.ListN.{length}
 use lib.IntN.{ℤ, pos, negsuc, _+ℤ_}
-use Rattle.tetra_core.specs.Bits.{getBits}
+use Rattle.bits.specs.Bits.{getBits}
 use Rattle.tetra_core.specs.Refusal.{unless, first}
 use Rattle.tetra_core.specs.BitBuffer.{goodWindow, answer, readRefusal, readBits, peekAt, peekPlace, placeOf, signed, peekBitsPosoffset}
 use Rattle.tetra_core.specs.declared.bitbuffer.Cursor.{Cursor}

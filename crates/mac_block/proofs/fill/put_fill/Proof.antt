@@ -1,7 +1,7 @@
 use mathlib.Core.Path.{sym, _∙_}
 use native.Mathlib.Omega.{arith}
 use borrow.Author.Needs.{needs}
-use Rattle.tetra_core.specs.Laws.Writes.{putBits-nil}
+use Rattle.bits.specs.Laws.Writes.{putBits-nil}
 use Rattle.mac_block.specs.Writer.{fillBits}
 use Rattle.mac_block.proofs.Puts.{put-fill}
 use Rattle.mac_block.proofs.fill.put_fill.Statement.{statement}

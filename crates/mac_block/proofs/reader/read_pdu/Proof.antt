@@ -2,8 +2,8 @@ use mathlib.Core.Path.{_≡_, sym, _∙_}
 use native.Mathlib.Omega.{arith}
 use borrow.Author.Needs.{needs}
 use denote.Ref.{now}
-use Rattle.tetra_core.specs.Bits.{bitsAt}
-use Rattle.tetra_core.specs.Laws.Reads.{length-bitsAt}
+use Rattle.bits.specs.Bits.{bitsAt}
+use Rattle.bits.specs.Laws.Reads.{length-bitsAt}
 use Rattle.codec.specs.Reader.{run}
 use Rattle.codec.specs.Header.{read}
 use Rattle.mac_resource.specs.MacResource.{readMacResource, macResourceOut}

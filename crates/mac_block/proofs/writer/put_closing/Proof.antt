@@ -1,7 +1,7 @@
 use native.Mathlib.Omega.{arith}
 use borrow.Author.Needs.{needs}
 use borrow.Author.Tests.{lt-ltb, le-ltb}
-use Rattle.tetra_core.specs.Laws.Values.{length-bitsOfNat}
+use Rattle.bits.specs.Laws.Values.{length-bitsOfNat}
 use Rattle.mac_block.specs.Writer.{finishBits, nullBits}
 use Rattle.mac_block.proofs.Puts.{put-behind}
 use Rattle.mac_block.proofs.writer.put_closing.Statement.{statement}

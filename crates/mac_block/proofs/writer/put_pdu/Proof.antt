@@ -5,8 +5,8 @@ use borrow.Author.Needs.{needs}
 use borrow.Rule.Slice.PartMut.{putMid}
 use denote.Ref.{now}
 use lib.ListN.{length}
-use Rattle.tetra_core.specs.Bits.{putBits}
-use Rattle.tetra_core.specs.Laws.Reads.{length-bitsAt}
+use Rattle.bits.specs.Bits.{putBits}
+use Rattle.bits.specs.Laws.Reads.{length-bitsAt}
 use Rattle.mac_resource.specs.MacResource.{headerBits, headerLen}
 use Rattle.mac_resource.specs.Laws.MacResource.{add-told, header-length}
 use Rattle.mac_block.specs.Writer.{flagOf, fillBits, addBits}

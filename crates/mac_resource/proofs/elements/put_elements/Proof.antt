@@ -2,7 +2,7 @@ use borrow.Author.Needs.{needs}
 use native.Mathlib.Omega.{arith}
 use mathlib.Core.Path.{ap, _∙_}
 use lib.ListN.{length}
-use Rattle.tetra_core.specs.Laws.Writes.{length-putBits}
+use Rattle.bits.specs.Laws.Writes.{length-putBits}
 use Rattle.tetra_fields.specs.ChannelAllocation.{channelAllocationBits}
 use Rattle.mac_resource.specs.Laws.Elements.{elements-told, flags-bounds}
 use Rattle.mac_resource.proofs.Pieces.{flags-alone, flags-and, put-first, put-then}

@@ -4,7 +4,7 @@ use mathlib.Core.Path.{sym, ap, _∙_}
 use Prim.Native.Nat.{_+_}
 use native.Mathlib.Omega.{arith}
 use lib.ListN.{length}
-use Rattle.tetra_core.specs.Laws.Writes.{length-putBits}
+use Rattle.bits.specs.Laws.Writes.{length-putBits}
 use Rattle.mac_resource.specs.Address.{typeOf, addressLen}
 use Rattle.mac_resource.specs.Elements.{elementsRefusal, elementsBits, elementsLen}
 use Rattle.mac_resource.specs.MacResource.{elementsOf, headerBits}

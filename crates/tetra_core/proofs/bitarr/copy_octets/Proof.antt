@@ -4,10 +4,10 @@ use native.Mathlib.Omega.{arith}
 use borrow.Author.Needs.{needs}
 use denote.Ref.{now}
 use lib.ListN.{replicate}
-use Rattle.tetra_core.specs.Bits.{bitsAt}
+use Rattle.bits.specs.Bits.{bitsAt}
 use Rattle.tetra_core.specs.Quantity.{fillOf}
-use Rattle.tetra_core.specs.Laws.Reads.{length-bitsAt}
-use Rattle.tetra_core.specs.Laws.Writes.{putBits-append}
+use Rattle.bits.specs.Laws.Reads.{length-bitsAt}
+use Rattle.bits.specs.Laws.Writes.{putBits-append}
 use Rattle.tetra_core.proofs.bitarr.copy_octets.Statement.{statement}
 use Rattle.tetra_core.proofs.bitarr.copy_octets.Tie as tie
 

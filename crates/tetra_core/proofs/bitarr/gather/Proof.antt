@@ -5,8 +5,8 @@ use native.Mathlib.Omega.{arith}
 use borrow.Author.Needs.{needs}
 use denote.Ref.{now}
 use lib.ListN.{take, drop}
-use Rattle.tetra_core.specs.Bits.{val, odd}
-use Rattle.tetra_core.specs.Laws.Values.{val-nil}
+use Rattle.bits.specs.Bits.{val, odd}
+use Rattle.bits.specs.Laws.Values.{val-nil}
 use Rattle.tetra_core.proofs.BitBytes.{gather-turn, gather-fits}
 use Rattle.tetra_core.proofs.bitarr.gather.Statement.{statement}
 use Rattle.tetra_core.proofs.bitarr.gather.Tie as tie

@@ -6,8 +6,8 @@ use borrow.Author.Needs.{needs}
 use denote.Ref.{now}
 use lib.ListN.{length, take}
 use lib.Seq.{take-length}
-use Rattle.tetra_core.specs.Bits.{odd, putBits}
-use Rattle.tetra_core.specs.Laws.Writes.{putBits-nil}
+use Rattle.bits.specs.Bits.{odd, putBits}
+use Rattle.bits.specs.Laws.Writes.{putBits-nil}
 use Rattle.tetra_core.proofs.BitBytes.{gather-all-turn, gathered-lt}
 use Rattle.tetra_core.proofs.bitarr.gather_all.Statement.{statement}
 use Rattle.tetra_core.proofs.bitarr.gather_all.Tie as tie

@@ -6,7 +6,7 @@ use borrow.Author.Needs.{needs}
 use denote.Ref.{now}
 use lib.ListN.{length, length-set}
 use lib.Seq.{paste, paste-zero}
-use Rattle.tetra_core.specs.Bits.{digit, bitsOfNat}
+use Rattle.bits.specs.Bits.{digit, bitsOfNat}
 use Rattle.tetra_core.proofs.BitBytes.{spread-turn}
 use Rattle.tetra_core.proofs.bitarr.spread.Statement.{statement}
 use Rattle.tetra_core.proofs.bitarr.spread.Tie as tie

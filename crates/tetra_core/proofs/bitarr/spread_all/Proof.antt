@@ -6,8 +6,8 @@ use borrow.Author.Needs.{needs}
 use denote.Ref.{now}
 use lib.ListN.{length, drop}
 use lib.Seq.{drop-length}
-use Rattle.tetra_core.specs.Bits.{digit, bitsAt}
-use Rattle.tetra_core.specs.Laws.Reads.{bitsAt-zero}
+use Rattle.bits.specs.Bits.{digit, bitsAt}
+use Rattle.bits.specs.Laws.Reads.{bitsAt-zero}
 use Rattle.tetra_core.proofs.BitBytes.{spread-all-turn}
 use Rattle.tetra_core.proofs.bitarr.spread_all.Statement.{statement}
 use Rattle.tetra_core.proofs.bitarr.spread_all.Tie as tie

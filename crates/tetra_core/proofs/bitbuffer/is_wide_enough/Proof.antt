@@ -3,7 +3,7 @@ use mathlib.Core.Path.{sym}
 use lib.Arith.{lt-of-le-ne}
 use borrow.Author.Needs.{needs}
 use borrow.Author.Tests.{lt-ltb}
-use Rattle.tetra_core.proofs.Shifts.{one-shl}
+use Rattle.bits.specs.Laws.Shifts.{one-shl}
 use Rattle.tetra_core.proofs.bitbuffer.is_wide_enough.Statement.{statement}
 use Rattle.tetra_core.proofs.bitbuffer.is_wide_enough.Tie as tie
 

@@ -8,7 +8,7 @@ use lib.ListN.{drop}
 use lib.Pow.{shr-mod}
 use borrow.Author.Needs.{needs}
 use borrow.Author.Tests.{eq-eqb, ne-eqb}
-use Rattle.tetra_core.specs.Bits.{bitsOfNat}
+use Rattle.bits.specs.Bits.{bitsOfNat}
 use Rattle.codec.specs.Reader.{got, fieldAt, run-bind}
 use Rattle.codec.specs.Feed.{field-word, feeds}
 use Rattle.codec.specs.Header.{Word, alone, starved, starved-alone, left-on, read}

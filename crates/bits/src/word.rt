@@ -1,0 +1,275 @@
+// Bits of a slice of bytes by whole bytes and words. The callers have decided that the bits are there; bit 0 is the most significant bit of byte 0.
+ghost use mathlib.Core.Path.{_≡_};
+ghost use Prim.Native.Nat.{_+_, _-_, _*_, _/_, _%_, _^_, _≤_, _<_, min};
+ghost use lib.ListN.{length};
+ghost use Rattle.bits.specs.Bits.{getBits, putBits, bitsOfNat, patch};
+
+pub fn least(a: usize, b: usize) -> usize
+    ensures { λ r. ⌜ r ≡ min a b ⌝ }
+{
+    if a < b { a } else { b }
+}
+
+// 2 ^ k - 1
+fn mask(k: usize) -> u64
+    requires { ⌜ k ≤ 8 ⌝ }
+    ensures { λ r. ⌜ r ≡ 2 ^ k - 1 ⌝ }
+{
+    (1u64 << k) - 1
+}
+
+// The k bits of b above its m low bits.
+fn byte_field(b: u8, k: usize, m: usize) -> u64
+    requires { ⌜ k + m ≤ 8 ⌝ }
+    ensures { λ r. ⌜ r ≡ b / 2 ^ m % 2 ^ k ⌝ }
+{
+    ((b as u64) >> m) & mask(k)
+}
+
+// acc with the k bits x put behind it.
+fn push(acc: u64, k: usize, x: u64) -> u64
+    requires { ⌜ (k ≤ 8) × (x < 2 ^ k) × (acc * 2 ^ k + x < 2 ^ 64) ⌝ }
+    ensures { λ r. ⌜ r ≡ acc * 2 ^ k + x ⌝ }
+{
+    (acc << k) | x
+}
+
+// The byte b with the k low bits of v put above its m low bits.
+fn byte_replaced(b: u8, k: usize, m: usize, v: u64) -> u8
+    requires { ⌜ k + m ≤ 8 ⌝ }
+    ensures { λ r. ⌜ r ≡ patch b k m v ⌝ }
+{
+    let wide = b as u64;
+    let top = (wide >> (k + m)) << (k + m);
+    let mid = (v & mask(k)) << m;
+    let low = wide & mask(m);
+    (top | (mid | low)) as u8
+}
+
+// The n bits of s from pos on, as a number.
+fn get_by_bytes(s: &[u8], pos: usize, n: usize) -> u64
+    requires { ⌜ (pos + n ≤ 8 * length (now s)) × (n ≤ 64) × (pos ≤ 65536) ⌝ }
+    ensures { λ r. ⌜ r ≡ getBits (now (s .entry)) pos n ⌝ }
+{
+    let mut acc: u64 = 0;
+    let mut done: usize = 0;
+    while done < n {
+        let p = pos + done;
+        let room = 8 - p % 8;
+        let k = least(n - done, room);
+        let x = byte_field(s[p / 8], k, room - k);
+        acc = push(acc, k, x);
+        done += k;
+    }
+    acc
+}
+
+// One, two and four bytes from at on as a number, k bits up. Each byte is shifted once, so that the compiler makes one load of eight.
+fn load1(s: &[u8], at: usize, k: usize) -> u64
+    requires { ⌜ (at < length (now s)) × (k ≤ 56) ⌝ }
+    ensures { λ r. ⌜ r ≡ getBits (now (s .entry)) (8 * at) 8 * 2 ^ k ⌝ }
+{
+    wide(s[at]) << k
+}
+
+fn load2(s: &[u8], at: usize, k: usize) -> u64
+    requires { ⌜ (at + 2 ≤ length (now s)) × (k ≤ 48) ⌝ }
+    ensures { λ r. ⌜ r ≡ getBits (now (s .entry)) (8 * at) 16 * 2 ^ k ⌝ }
+{
+    load1(s, at, k + 8) | load1(s, at + 1, k)
+}
+
+fn load4(s: &[u8], at: usize, k: usize) -> u64
+    requires { ⌜ (at + 4 ≤ length (now s)) × (k ≤ 32) ⌝ }
+    ensures { λ r. ⌜ r ≡ getBits (now (s .entry)) (8 * at) 32 * 2 ^ k ⌝ }
+{
+    load2(s, at, k + 16) | load2(s, at + 2, k)
+}
+
+// Eight bytes from at on as a number.
+fn load8(s: &[u8], at: usize) -> u64
+    requires { ⌜ at + 8 ≤ length (now s) ⌝ }
+    ensures { λ r. ⌜ r ≡ getBits (now (s .entry)) (8 * at) 64 ⌝ }
+{
+    load4(s, at, 32) | load4(s, at + 4, 0)
+}
+
+fn wide(x: u8) -> u64
+    ensures { λ r. ⌜ r ≡ x ⌝ }
+{
+    x as u64
+}
+
+// The n bits of x after its o high bits.
+pub fn word_field(x: u64, o: usize, n: usize) -> u64
+    requires { ⌜ (o + n ≤ 64) × (0 < n) ⌝ }
+    ensures { λ r. ⌜ r ≡ x / 2 ^ (64 - o - n) % 2 ^ n ⌝ }
+{
+    (x << o) >> (64 - n)
+}
+
+// Where the eight bytes start in which the bit pos is: at its own byte, or the last eight.
+fn word_start(len: usize, pos: usize) -> usize
+    requires { ⌜ 8 ≤ len ⌝ }
+    ensures { λ r. ⌜ r ≡ min (pos / 8) (len - 8) ⌝ }
+{
+    least(pos / 8, len - 8)
+}
+
+// The n bits from bit o on of the eight bytes from at on.
+fn get_in_word(s: &[u8], at: usize, o: usize, n: usize) -> u64
+    requires { ⌜ (at + 8 ≤ length (now s)) × (o + n ≤ 64) × (0 < n) ⌝ }
+    ensures { λ r. ⌜ r ≡ getBits (now (s .entry)) (8 * at + o) n ⌝ }
+{
+    word_field(load8(s, at), o, n)
+}
+
+// The same where the bits end in the ninth byte.
+fn get_nine(s: &[u8], at: usize, o: usize, n: usize) -> u64
+    requires { ⌜ (at + 8 < length (now s)) × (64 < o + n) × (o < 8) × (n ≤ 64) ⌝ }
+    ensures { λ r. ⌜ r ≡ getBits (now (s .entry)) (8 * at + o) n ⌝ }
+{
+    let k = o + n - 64;
+    let high = get_in_word(s, at, o, 64 - o);
+    push(high, k, byte_field(s[at + 8], k, 8 - k))
+}
+
+// As get_by_bytes, by whole words where there are eight bytes.
+pub fn get_bits(s: &[u8], pos: usize, n: usize) -> u64
+    requires { ⌜ (pos + n ≤ 8 * length (now s)) × (n ≤ 64) × (pos ≤ 65536) ⌝ }
+    ensures { λ r. ⌜ r ≡ getBits (now (s .entry)) pos n ⌝ }
+{
+    if n == 0 {
+        return 0;
+    }
+    if s.len() < 8 {
+        return get_by_bytes(s, pos, n);
+    }
+    let at = word_start(s.len(), pos);
+    let o = pos - 8 * at;
+    if 64 < o + n {
+        return get_nine(s, at, o, n);
+    }
+    get_in_word(s, at, o, n)
+}
+
+// The n low bits of v put into s from pos on.
+fn put_by_bytes(s: &mut [u8], pos: usize, n: usize, v: u64)
+    requires { ⌜ (pos + n ≤ 8 * length (now s)) × (n ≤ 64) × (pos ≤ 65536) ⌝ }
+    ensures { λ r. ⌜ now (s .exit) ≡ putBits (now (s .entry)) pos (bitsOfNat n v) ⌝ }
+{
+    let mut done: usize = 0;
+    while done < n {
+        let p = pos + done;
+        let at = p / 8;
+        let room = 8 - p % 8;
+        let k = least(n - done, room);
+        let b = s[at];
+        s[at] = byte_replaced(b, k, room - k, v >> (n - done - k));
+        done += k;
+    }
+}
+
+// The low byte of x.
+fn low8(x: u64) -> u8
+    ensures { λ r. ⌜ r ≡ x % 256 ⌝ }
+{
+    (x % 256) as u8
+}
+
+// One, two, four and eight bytes of x put into s from at on.
+fn store1(s: &mut [u8], at: usize, x: u64)
+    requires { ⌜ at < length (now s) ⌝ }
+    ensures { λ r. ⌜ now (s .exit) ≡ putBits (now (s .entry)) (8 * at) (bitsOfNat 8 x) ⌝ }
+{
+    s[at] = low8(x);
+}
+
+fn store2(s: &mut [u8], at: usize, x: u64)
+    requires { ⌜ at + 2 ≤ length (now s) ⌝ }
+    ensures { λ r. ⌜ now (s .exit) ≡ putBits (now (s .entry)) (8 * at) (bitsOfNat 16 x) ⌝ }
+{
+    store1(s, at, x >> 8);
+    store1(s, at + 1, x);
+}
+
+fn store4(s: &mut [u8], at: usize, x: u64)
+    requires { ⌜ at + 4 ≤ length (now s) ⌝ }
+    ensures { λ r. ⌜ now (s .exit) ≡ putBits (now (s .entry)) (8 * at) (bitsOfNat 32 x) ⌝ }
+{
+    store2(s, at, x >> 16);
+    store2(s, at + 2, x);
+}
+
+fn store8(s: &mut [u8], at: usize, x: u64)
+    requires { ⌜ at + 8 ≤ length (now s) ⌝ }
+    ensures { λ r. ⌜ now (s .exit) ≡ putBits (now (s .entry)) (8 * at) (bitsOfNat 64 x) ⌝ }
+{
+    store4(s, at, x >> 32);
+    store4(s, at + 4, x);
+}
+
+// The word x with v in the place of the n bits after its o high bits.
+fn word_replaced(x: u64, o: usize, n: usize, v: u64) -> u64
+    requires { ⌜ (o + n ≤ 64) × (0 < n) × (v < 2 ^ n) ⌝ }
+    ensures { λ r. ⌜ r ≡ patch x n (64 - o - n) v ⌝ }
+{
+    let m = 64 - o - n;
+    let old = word_field(x, o, n);
+    (x - (old << m)) + (v << m)
+}
+
+// The number v put into the n bits from bit o on of the eight bytes from at on.
+fn put_in_word(s: &mut [u8], at: usize, o: usize, n: usize, v: u64)
+    requires { ⌜ (at + 8 ≤ length (now s)) × (o + n ≤ 64) × (0 < n) × (v < 2 ^ n) ⌝ }
+    ensures { λ r. ⌜ now (s .exit) ≡ putBits (now (s .entry)) (8 * at + o) (bitsOfNat n v) ⌝ }
+{
+    let x = load8(s, at);
+    store8(s, at, word_replaced(x, o, n, v));
+}
+
+// The same where the bits end in the ninth byte.
+fn put_nine(s: &mut [u8], at: usize, o: usize, n: usize, v: u64)
+    requires { ⌜ (at + 8 < length (now s)) × (64 < o + n) × (o < 8) × (n ≤ 64) × (v < 2 ^ n) ⌝ }
+    ensures { λ r. ⌜ now (s .exit) ≡ putBits (now (s .entry)) (8 * at + o) (bitsOfNat n v) ⌝ }
+{
+    let k = o + n - 64;
+    put_in_word(s, at, o, 64 - o, v >> k);
+    let b = s[at + 8];
+    s[at + 8] = byte_replaced(b, k, 8 - k, v);
+}
+
+// The number v put into the n bits from pos on, which lie in one byte. A byte is sooner loaded and stored than a word of eight.
+fn put_in_byte(s: &mut [u8], pos: usize, n: usize, v: u64)
+    requires { ⌜ (pos + n ≤ 8 * length (now s)) × (pos % 8 + n ≤ 8) × (0 < n) ⌝ }
+    ensures { λ r. ⌜ now (s .exit) ≡ putBits (now (s .entry)) pos (bitsOfNat n v) ⌝ }
+{
+    let at = pos / 8;
+    let b = s[at];
+    s[at] = byte_replaced(b, n, 8 - pos % 8 - n, v);
+}
+
+// As put_by_bytes, by whole words where there are eight bytes.
+pub fn put_bits(s: &mut [u8], pos: usize, n: usize, v: u64)
+    requires { ⌜ (pos + n ≤ 8 * length (now s)) × (n ≤ 64) × (pos ≤ 65536) × (v < 2 ^ n) ⌝ }
+    ensures { λ r. ⌜ now (s .exit) ≡ putBits (now (s .entry)) pos (bitsOfNat n v) ⌝ }
+{
+    if n == 0 {
+        return;
+    }
+    if pos % 8 + n <= 8 {
+        put_in_byte(s, pos, n, v);
+        return;
+    }
+    if s.len() < 8 {
+        put_by_bytes(s, pos, n, v);
+        return;
+    }
+    let at = word_start(s.len(), pos);
+    let o = pos - 8 * at;
+    if 64 < o + n {
+        put_nine(s, at, o, n, v);
+        return;
+    }
+    put_in_word(s, at, o, n, v);
+}
