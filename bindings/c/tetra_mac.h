@@ -132,23 +132,24 @@ uint64_t tetra_channel_allocation_len(const uint64_t *record, size_t count, uint
 /* ---- MAC-RESOURCE, clause 21.4.3.1: 16 bits for a null PDU, else 29 to 92 */
 
 enum tetra_mac_resource {
-    TETRA_RESOURCE_FILL_BITS = 0,         /* flag: whether fill bits follow the content */
-    TETRA_RESOURCE_POS_OF_GRANT = 1,      /* number of 1 bit: 0 grant on the current channel, 1 on the allocated one */
-    TETRA_RESOURCE_ENCRYPTION_MODE = 2,   /* number of 2 bits; not 0 only with address type 2 (10) */
-    TETRA_RESOURCE_RANDOM_ACCESS = 3,     /* flag: whether a random access is acknowledged */
-    TETRA_RESOURCE_LENGTH = 4,            /* number of 6 bits, not written as 0 (8): octets; 62 second slot stolen, 63 start of fragments */
-    TETRA_RESOURCE_ADDR_TYPE = 5,         /* code 0 to 7: 0 null PDU, 1 SSI, 2 event label, 3 USSI, 4 SMI, 5 SSI and event label, 6 SSI and usage
-                                             marker, 7 SMI and event label. A null PDU has none of the places below, and 0 to 3 are 0 (9) */
-    TETRA_RESOURCE_SSI_KIND = 6,          /* code 0 to 2, with address type 1, 5 or 6: 0 SSI of no known kind, 1 ISSI, 2 GSSI. On the air they are
-                                             one: it is read as 0 */
-    TETRA_RESOURCE_ADDRESS = 7,           /* number of 24 bits: the SSI, USSI or SMI; with address type 2, of 10 bits: the event label */
-    TETRA_RESOURCE_ADDRESS_2 = 8,         /* number: with address type 5 or 7, of 10 bits, the event label; with 6, of 6 bits, the usage marker */
-    TETRA_RESOURCE_POWER_PRESENT = 9,     /* flag: whether there is a power control element */
-    TETRA_RESOURCE_POWER = 10,            /* number of 4 bits: power control */
+    TETRA_RESOURCE_FILL_BITS = 0,          /* flag: whether fill bits follow the content */
+    TETRA_RESOURCE_POS_OF_GRANT = 1,       /* number of 1 bit: 0 grant on the current channel, 1 on the allocated one */
+    TETRA_RESOURCE_ENCRYPTION_MODE = 2,    /* number of 2 bits; not 0 only with address type 2 (10) */
+    TETRA_RESOURCE_RANDOM_ACCESS = 3,      /* flag: whether a random access is acknowledged */
+    TETRA_RESOURCE_LENGTH = 4,             /* number of 6 bits, not written as 0 (8): octets; 62 second slot stolen, 63 start of fragments */
+    TETRA_RESOURCE_ADDR_TYPE = 5,          /* code 0 to 7: 0 null PDU, 1 SSI, 2 event label, 3 USSI, 4 SMI, 5 SSI and event label, 6 SSI and usage
+                                              marker, 7 SMI and event label. Of a null PDU the places 0 to 3 are 0 (9), and its elements, whose
+                                              codes must be known, are not written */
+    TETRA_RESOURCE_SSI_KIND = 6,           /* code 0 to 2, with address type 1, 5 or 6: 0 SSI of no known kind, 1 ISSI, 2 GSSI. On the air they are
+                                              one: it is read as 0 */
+    TETRA_RESOURCE_ADDRESS = 7,            /* number of 24 bits: the SSI, USSI or SMI; with address type 2, of 10 bits: the event label */
+    TETRA_RESOURCE_ADDRESS_2 = 8,          /* number: with address type 5 or 7, of 10 bits, the event label; with 6, of 6 bits, the usage marker */
+    TETRA_RESOURCE_POWER_PRESENT = 9,      /* flag: whether there is a power control element */
+    TETRA_RESOURCE_POWER = 10,             /* number of 4 bits: power control */
     TETRA_RESOURCE_SLOTGRANT_PRESENT = 11, /* flag: whether there is a slot grant */
-    TETRA_RESOURCE_SLOTGRANT = 12,        /* 12 to 14: the record of the slot grant */
-    TETRA_RESOURCE_CHANNEL_PRESENT = 15,  /* flag: whether there is a channel allocation */
-    TETRA_RESOURCE_CHANNEL = 16,          /* 16 to 24: the record of the channel allocation */
+    TETRA_RESOURCE_SLOTGRANT = 12,         /* 12 to 14: the record of the slot grant */
+    TETRA_RESOURCE_CHANNEL_PRESENT = 15,   /* flag: whether there is a channel allocation */
+    TETRA_RESOURCE_CHANNEL = 16,           /* 16 to 24: the record of the channel allocation */
     TETRA_RESOURCE_WORDS = 25
 };
 
@@ -187,13 +188,13 @@ enum tetra_access_field {
                                     24, 32 subslots */
 };
 enum tetra_downlink_usage {
-    TETRA_DOWNLINK_KIND = 0,   /* code 0 to 4: 0 unallocated, 1 assigned control, 2 common control, 3 common and assigned, 4 traffic */
-    TETRA_DOWNLINK_TRAFFIC = 1 /* number 4 to 63, with kind 4: usage marker */
+    TETRA_DOWNLINK_USAGE_KIND = 0,   /* code 0 to 4: 0 unallocated, 1 assigned control, 2 common control, 3 common and assigned, 4 traffic */
+    TETRA_DOWNLINK_USAGE_TRAFFIC = 1 /* number 4 to 63, with kind 4: usage marker */
 };
 enum tetra_uplink_usage {
-    TETRA_UPLINK_KIND = 0,   /* code 0 to 4: 3 unallocated, 4 traffic; 0 common only, 1 common and assigned and 2 assigned only have no marker and
-                                are refused (7) */
-    TETRA_UPLINK_TRAFFIC = 1 /* number 4 to 63, with kind 4: usage marker */
+    TETRA_UPLINK_USAGE_KIND = 0,   /* code 0 to 4: 3 unallocated, 4 traffic; 0 common only, 1 common and assigned and 2 assigned only have no
+                                      marker and are refused (7) */
+    TETRA_UPLINK_USAGE_TRAFFIC = 1 /* number 4 to 63, with kind 4: usage marker */
 };
 
 /* Refused: 13, 1, 7. */

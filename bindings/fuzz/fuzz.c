@@ -6,6 +6,7 @@
  */
 #define _GNU_SOURCE
 #include "tetra_mac.h"
+#include <signal.h>
 #include <stdbool.h>
 #include <stdio.h>
 #include <stdlib.h>
@@ -185,6 +186,11 @@ static void wrong(const char *what) {
     exit(1);
 }
 
+static void touched(int number) {
+    (void)number;
+    wrong("a byte outside of the slices was touched");
+}
+
 static void hold(bool right, const char *what) {
     if (!right) wrong(what);
 }
@@ -279,7 +285,6 @@ static bool bit_same(size_t i) { return ((bytes.at[i / 8] ^ bytes.was[i / 8]) >>
 static void check(void) {
     const uint64_t *o = (uint64_t *)out.at;
     bool on_bytes = in.op <= WRITE, with_record = in.op >= WRITE, writes = in.op == WRITE || in.op == WRITE_BITS;
-    bool reads_type = in.op == READ;
     size_t words = out.bytes / 8, left_from = 0, given = needed();
     unsigned number = tetra_number(in.status);
     uint64_t bit = tetra_bit(in.status);
@@ -298,7 +303,8 @@ static void check(void) {
         if (in.op == READ_BITS || in.op == WRITE_BITS) hold(cursor == in.pos + in.num_bits && cursor <= in.end, "the cursor behind the bits");
         if (in.op == READ_BITS || in.op == PEEK_BITS) hold(in.num_bits == 64 || o[1] >> in.num_bits == 0, "no more bits than asked for");
         if (in.op == PEEK_BITS) hold(cursor == in.pos, "a peek leaves the cursor");
-        if (in.op == READ || in.op == WRITE) hold(in.pos < cursor && cursor <= in.end && cursor - in.pos <= in.type->most_bits, "the cursor behind it");
+        if (in.op == READ || in.op == WRITE)
+            hold(in.pos < cursor && cursor <= in.end && cursor - in.pos <= in.type->most_bits, "the cursor behind the header");
         if (in.op == READ) hold(in.type->known(o + 1), "known codes");
         if (in.op == CHANNEL_LEN) hold(o[0] == 25 || o[0] == 27, "25 or 27 bits");
         if (in.op == HEADER_LEN) hold(o[0] == 16 || (29 <= o[0] && o[0] <= 92), "16 or 29 to 92 bits");
@@ -307,7 +313,8 @@ static void check(void) {
         malformed[in.op][t]++;
     } else {
         hold(number < 15 && (refusals() >> number & 1), "a refusal that the header lists");
-        hold(reads_type ? number == TETRA_BAD_WINDOW ? bit == 0 : in.pos + bit <= in.end && bit < in.type->most_bits : bit == 0, "the refused field's bit");
+        bool in_header = in.op == READ && number != TETRA_BAD_WINDOW;
+        hold(in_header ? bit < in.type->most_bits && in.pos + bit <= in.end : bit == 0, "the refused field's bit");
         refused[in.op][t][number]++;
         if (on_bytes) {
             hold(o[0] == in.pos, "a refused call gives the cursor that it was given");
@@ -335,7 +342,8 @@ static void one(void) {
     calls++;
     in.op = (enum op)below(OPS + 6);
     if (in.op >= OPS) in.op = in.op % 2 ? READ : WRITE;
-    in.type = in.op == READ || in.op == WRITE ? &types[below(TYPES)] : in.op == CHANNEL_LEN ? &types[1] : in.op > CHANNEL_LEN ? &types[2] : &types[0];
+    bool any_type = in.op == READ || in.op == WRITE;
+    in.type = &types[any_type ? below(TYPES) : in.op < READ ? 0 : in.op == CHANNEL_LEN ? 1 : 2];
     lend(&bytes, some_bytes());
     lend(&record, 8 * some_length(in.type->words));
     lend(&out, 8 * some_length(needed()));
@@ -382,6 +390,8 @@ int main(int argc, char **argv) {
     make_room(&bytes);
     make_room(&record);
     make_room(&out);
+    signal(SIGSEGV, touched);
+    signal(SIGBUS, touched);
     struct timespec began, now;
     clock_gettime(CLOCK_MONOTONIC, &began);
     do {

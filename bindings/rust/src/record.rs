@@ -29,9 +29,7 @@ pub(crate) fn write<T: Record<N>, const N: usize>(call: sys::Write, value: &T, s
     let mut out = [0u64; 1];
     let words = value.to_words();
     // Slices go as pointer and count; the call keeps none and writes only into s and out.
-    let status = unsafe {
-        call(s.as_mut_ptr(), s.len(), c.start, c.pos, c.end, words.as_ptr(), words.len(), out.as_mut_ptr(), out.len())
-    };
+    let status = unsafe { call(s.as_mut_ptr(), s.len(), c.start, c.pos, c.end, words.as_ptr(), words.len(), out.as_mut_ptr(), out.len()) };
     Refusal::of_status(status)?;
     Ok(c.at(out[0] as usize))
 }

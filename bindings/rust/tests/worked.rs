@@ -97,12 +97,8 @@ fn access_assign() {
 
 #[test]
 fn mac_access() {
-    let header = MacAccess {
-        fill_bits: false,
-        encrypted: false,
-        addr: UplinkAddress::Ssi(SsiType::Issi, 1),
-        option: MacAccessOption::Without,
-    };
+    let header =
+        MacAccess { fill_bits: false, encrypted: false, addr: UplinkAddress::Ssi(SsiType::Issi, 1), option: MacAccessOption::Without };
     let bytes = [0x00, 0x00, 0x00, 0x08];
     written(&bytes, 30, |s, c| header.to_bitbuf(s, c));
     assert_eq!(MacAccess::from_bitbuf(&bytes, Cursor::new(30)), Ok((header, Cursor::new(30).at(30))));
@@ -110,8 +106,7 @@ fn mac_access() {
 
 #[test]
 fn mac_data() {
-    let header =
-        MacData { fill_bits: false, encrypted: false, addr: UplinkAddress::EventLabel(1), option: MacDataOption::LengthInd(5) };
+    let header = MacData { fill_bits: false, encrypted: false, addr: UplinkAddress::EventLabel(1), option: MacDataOption::LengthInd(5) };
     let bytes = [0x04, 0x01, 0x0a];
     written(&bytes, 23, |s, c| header.to_bitbuf(s, c));
     assert_eq!(MacData::from_bitbuf(&bytes, Cursor::new(23)), Ok((header, Cursor::new(23).at(23))));

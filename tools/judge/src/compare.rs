@@ -45,9 +45,9 @@ const CLASSES: [(Class, &str); 11] = [
 struct Counts {
     /// By the call's name; a call's row stands where it first came.
     rows: Vec<(&'static str, BTreeMap<Class, u64>)>,
-    smallest: Option<Case>,
+    /// The smallest case of each class that is a difference, and of those that are wrong.
+    smallest: BTreeMap<Class, Case>,
     all: u64,
-    wrong: u64,
 }
 
 impl Counts {
@@ -60,11 +60,9 @@ impl Counts {
         });
         *self.rows[at].1.entry(class).or_default() += 1;
         self.all += 1;
-        if class == Class::Wrong {
-            self.wrong += 1;
-            if self.smallest.as_ref().is_none_or(|c| case.size() < c.size()) {
-                self.smallest = Some(case);
-            }
+        let plain = matches!(class, Class::Equal | Class::Refused);
+        if !plain && self.smallest.get(&class).is_none_or(|c| case.size() < c.size()) {
+            self.smallest.insert(class, case);
         }
     }
 
@@ -79,12 +77,11 @@ impl Counts {
             counts.iter().for_each(|(c, n)| *totals.entry(*c).or_default() += n);
         }
         row("all", &totals);
-        if let Some(case) = self.smallest {
+        for (class, case) in self.smallest {
             let case = case.shrunk();
-            println!("{} wrong; the smallest: {}\n{}", self.wrong, case.show(), case.answers());
-            return false;
+            println!("smallest {class:?}: {}: {}", case.show(), case.answers());
         }
-        true
+        !totals.contains_key(&Class::Wrong)
     }
 }
 
@@ -135,10 +132,12 @@ fn reads(g: &mut Rng, k: Kind, c: &mut Counts) {
 
 fn writes(g: &mut Rng, k: Kind, c: &mut Counts) {
     let numbers = cases::record(g, k);
-    let n = g.below(21) as usize;
+    let roomy = !g.once_in(3);
+    let n = if roomy { 14 + g.below(7) } else { g.below(21) } as usize;
     let bytes = cases::bytes(g, n);
     let mut window = any_window(g, n);
-    if g.once_in(2) {
+    if roomy && window.end == 8 * n {
+        window.start %= 20;
         window.pos = window.start;
     }
     c.add(Case { call: Call::Write(k), bytes, window, numbers });
