@@ -1,18 +1,17 @@
-//! Proves and writes the static library (`rt staticlib tetra_mac` in the repository's root) and links it. With LIBTETRA_MAC set, the folder
-//! of a libtetra_mac.a that is there already, it only links.
+//! Has `rt staticlib tetra_mac` prove and write the static library in the repository's root, where it is older than a source, and links it.
+//! With LIBTETRA_MAC set, the folder of a libtetra_mac.a that is there already, it only links.
 use std::path::{Path, PathBuf};
-use std::process::Command;
+use std::process::{Command, Stdio};
 
 fn proved() -> PathBuf {
     let root = Path::new(env!("CARGO_MANIFEST_DIR")).join("../..");
-    let folder = root.join("target/staticlib");
-    for input in ["crates", "crates.txt", "target/staticlib/libtetra_mac.a"] {
+    for input in ["crates", "crates.txt"] {
         println!("cargo:rerun-if-changed={}", root.join(input).display());
     }
-    match Command::new("rt").args(["staticlib", "tetra_mac"]).current_dir(&root).status() {
-        Ok(status) if status.success() => folder,
-        Ok(status) => panic!("rt staticlib tetra_mac: {status}"),
-        Err(e) => panic!("rt, the Rattle toolchain, is not on the PATH: {e}"),
+    match Command::new(root.join("bindings/staticlib")).stderr(Stdio::inherit()).output() {
+        Ok(done) if done.status.success() => PathBuf::from(String::from_utf8_lossy(&done.stdout).trim_end()),
+        Ok(done) => panic!("rt staticlib tetra_mac: {}", done.status),
+        Err(e) => panic!("bindings/staticlib: {e}"),
     }
 }
 

@@ -77,7 +77,7 @@ fn reads() {
     assert_eq!(MacResource::from_bitbuf(&[0x40, 0], Cursor::new(16)), refused(Refusal::WRONG_PDU_TYPE, 0));
     assert_eq!(MacResource::from_bitbuf(&[0x00, 0x31, 0, 0], Cursor::new(30)), refused(Refusal::READ_PAST_END, 16));
     assert_eq!(MacAccess::from_bitbuf(&[0x80], Cursor::new(1)), refused(Refusal::WRONG_PDU_TYPE, 0));
-    assert_eq!(MacData::from_bitbuf(&[0x04, 0x00, 0x20], Cursor::new(22)), refused(Refusal::READ_PAST_END, 22));
+    assert_eq!(MacData::from_bitbuf(&[0x04, 0x00, 0x80], Cursor::new(22)), refused(Refusal::READ_PAST_END, 22));
     assert_eq!(ChanAllocElement::from_bitbuf(&[0x23, 0x00, 0x06, 0x80], Cursor::new(25)), refused(Refusal::EXTENDED_CARRIER, 22));
     assert_eq!(ChanAllocElement::from_bitbuf(&[0x20, 0x00, 0x04, 0x80], Cursor::new(25)), refused(Refusal::AUGMENTED, 6));
 }

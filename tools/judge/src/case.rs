@@ -1,8 +1,8 @@
 //! One case: a call and its inputs, what both sides answer, and the class of the two answers.
+use crate::bound;
 use crate::compare::{listed_read, listed_write};
 use crate::original::{self, caught};
 use crate::ours::{self, Kind, Out, Refusal, Window};
-use crate::bound;
 use tetra_core::BitBuffer;
 use tetra_core::pdu_parse_error::PduParseErr;
 
@@ -192,7 +192,11 @@ impl Case {
         let left = left.as_ref().unwrap_or(&self.bytes);
         match (theirs, ours) {
             (Theirs::Done(a), Ok((pos, b))) => {
-                if a == b && cursor == pos && *left == s && (self.call.writes() || s == self.bytes) { Class::Equal } else { Class::Wrong }
+                if a == b && cursor == pos && *left == s && (self.call.writes() || s == self.bytes) {
+                    Class::Equal
+                } else {
+                    Class::Wrong
+                }
             }
             (_, Ok(_)) => Class::Wrong,
             (_, Err(r)) if s != self.bytes || !cursor_kept(self, r) => Class::Wrong,
@@ -210,13 +214,13 @@ impl Case {
         }
     }
 
-    /// How large it is, for the smallest of several.
-    pub fn size(&self) -> u64 {
+    /// How large it is, for the smallest of several: bytes, then the widths of its numbers, then these and its ones.
+    pub fn size(&self) -> (usize, u32, u64) {
         let w = self.window;
-        let numbers: u64 = self.numbers.iter().map(|v| 64 - v.leading_zeros() as u64).sum();
-        let ones: u64 = self.bytes.iter().map(|b| b.count_ones() as u64).sum();
-        let window: u64 = [w.start, w.pos, w.end].iter().map(|v| 64 - v.leading_zeros() as u64).sum();
-        1000 * self.bytes.len() as u64 + 10 * window + numbers + ones
+        let numbers = [w.start as u64, w.pos as u64, w.end as u64].into_iter().chain(self.numbers.iter().copied());
+        let near = numbers.map(|v| if self.call == Call::PeekBits { v.min(!v) } else { v });
+        let ones: u32 = self.bytes.iter().map(|b| b.count_ones()).sum();
+        (self.bytes.len(), near.clone().map(|v| 64 - v.leading_zeros()).sum(), near.fold(ones as u64, u64::saturating_add))
     }
 
     /// A smaller case of the same class, as small as single steps make it.
@@ -240,7 +244,22 @@ impl Case {
                 all.push(Case { bytes, window, ..self.clone() });
             }
         }
-        for (start, pos, end) in [(0, w.pos, w.end), (w.start, w.start, w.end), (w.start, w.pos, w.end.saturating_sub(1)), (w.start, w.pos, w.pos)] {
+        if 0 < w.pos && w.pos <= w.end && w.end <= 8 * n {
+            // the bits from the cursor on, from bit 0
+            let bit = |i: usize| self.bytes[i / 8] >> (7 - i % 8) & 1;
+            let mut bytes = vec![0u8; (w.end - w.pos).div_ceil(8)];
+            (w.pos..w.end).for_each(|i| bytes[(i - w.pos) / 8] |= bit(i) << (7 - (i - w.pos) % 8));
+            all.push(Case { bytes, window: Window { start: 0, pos: 0, end: w.end - w.pos }, ..self.clone() });
+        }
+        let less = |v: usize| v.saturating_sub(1);
+        for (start, pos, end) in [
+            (0, w.pos, w.end),
+            (w.start, w.start, w.end),
+            (w.start, w.pos, w.pos),
+            (w.start, w.pos, less(w.end)),
+            (w.start, less(w.pos), w.end),
+            (less(w.start), less(w.pos), less(w.end)),
+        ] {
             all.push(Case { window: Window { start, pos, end }, ..self.clone() });
         }
         for i in 0..8 * n {
@@ -251,7 +270,8 @@ impl Case {
             }
         }
         for i in 0..self.numbers.len() {
-            for v in [0, 1, self.numbers[i] / 2, self.numbers[i].saturating_sub(1)] {
+            let v = self.numbers[i];
+            for v in [0, 1, v / 2, v.saturating_sub(1), (v as i64 / 2) as u64, v.wrapping_add(1)] {
                 let mut c = self.clone();
                 c.numbers[i] = v;
                 all.push(c);
@@ -261,24 +281,35 @@ impl Case {
     }
 
     pub fn show(&self) -> String {
-        let hex: String = self.bytes.iter().map(|v| format!("{v:02x}")).collect();
         let w = self.window;
-        format!("{}: bytes {hex}, window {} {} {}, numbers {:?}", self.call.name(), w.start, w.pos, w.end, self.numbers)
+        let numbers = self.numbers.iter().map(|v| if self.call == Call::PeekBits { (*v as i64).to_string() } else { v.to_string() });
+        let numbers: Vec<String> = numbers.collect();
+        format!("{}: {}, window {} {} {}, numbers {}", self.call.name(), hex(&self.bytes), w.start, w.pos, w.end, numbers.join(" "))
     }
 
-    /// What both sides answer, for a case that is wrong.
+    /// What both sides answer.
     pub fn answers(&self) -> String {
         let theirs = original::buffer(&self.bytes, self.window).map(|mut b| {
-            let answer = caught(|| Some(theirs_on(self, &mut b)));
-            let said = match &answer {
+            let said = match caught(|| Some(theirs_on(self, &mut b))) {
                 Some(Theirs::Done(v)) => format!("gives {v:?}"),
                 Some(_) => "gives an error".to_string(),
                 None => "panics".to_string(),
             };
-            format!("{said}, cursor {}, bytes {:02x?}", b.get_raw_pos(), b.into_bytes())
+            format!("{said}, cursor {}, {}", b.get_raw_pos(), hex(&b.into_bytes()))
         });
         let mut s = self.bytes.clone();
-        let ours = ours_on(self, &mut s);
-        format!("the original {}; this port {ours:?}, bytes {s:02x?}", theirs.unwrap_or("does not take the window".to_string()))
+        let ours = match ours_on(self, &mut s) {
+            Some(Ok((cursor, v))) => format!("gives {v:?}, cursor {cursor}"),
+            Some(Err(r)) => r.to_string(),
+            None => "has no such value".to_string(),
+        };
+        format!("the original {}; this port {ours}, {}", theirs.unwrap_or("does not take the window".to_string()), hex(&s))
     }
+}
+
+fn hex(s: &[u8]) -> String {
+    if s.len() > 40 {
+        return format!("{} bytes", s.len());
+    }
+    format!("bytes {s:02x?}")
 }

@@ -5,6 +5,7 @@ use crate::original::{self, caught};
 use crate::ours::{KINDS, Kind, Window};
 use crate::{names, sweep};
 use std::collections::BTreeMap;
+use tetra_core::BitBuffer;
 
 /// A difference of docs/DIFFERENCES.md: its number, and the number of the refusal that this port gives.
 pub type Difference = Option<(u8, u8)>;
@@ -77,9 +78,11 @@ impl Counts {
             counts.iter().for_each(|(c, n)| *totals.entry(*c).or_default() += n);
         }
         row("all", &totals);
+        println!("the smallest of each:");
         for (class, case) in self.smallest {
             let case = case.shrunk();
-            println!("smallest {class:?}: {}: {}", case.show(), case.answers());
+            let name = CLASSES.iter().find(|(c, _)| *c == class).map_or("wrong", |(_, name)| name);
+            println!("{name}: {}: {}", case.show(), case.answers());
         }
         !totals.contains_key(&Class::Wrong)
     }
@@ -130,8 +133,21 @@ fn reads(g: &mut Rng, k: Kind, c: &mut Counts) {
     }
 }
 
+/// A record that the original writes where there is room, if one of a few is.
+fn good_record(g: &mut Rng, k: Kind) -> Vec<u64> {
+    let mut record = cases::record(g, k);
+    for _ in 0..6 {
+        let mut b = BitBuffer::new(128);
+        if caught(|| original::write(k, &mut b, &record)).is_some() {
+            break;
+        }
+        record = cases::record(g, k);
+    }
+    record
+}
+
 fn writes(g: &mut Rng, k: Kind, c: &mut Counts) {
-    let numbers = cases::record(g, k);
+    let numbers = if g.once_in(2) { good_record(g, k) } else { cases::record(g, k) };
     let roomy = !g.once_in(3);
     let n = if roomy { 14 + g.below(7) } else { g.below(21) } as usize;
     let bytes = cases::bytes(g, n);

@@ -13,7 +13,10 @@ pub fn compared() -> Result<usize, String> {
     for v in 0..16u64 {
         let same = [
             ("capacity", name(enums::basic_slotgrant_cap_alloc::BasicSlotgrantCapAlloc::try_from(v).ok(), ours::BasicSlotgrantCapAlloc::from_raw(v))),
-            ("reservation", name(enums::reservation_requirement::ReservationRequirement::try_from(v).ok(), ours::ReservationRequirement::from_raw(v))),
+            (
+                "reservation",
+                name(enums::reservation_requirement::ReservationRequirement::try_from(v).ok(), ours::ReservationRequirement::from_raw(v)),
+            ),
             ("base frame-length", name(structs::base_frame_length::BaseFrameLength::try_from(v).ok(), ours::BaseFrameLength::from_raw(v))),
             ("access code", name(enums::access_code::AccessCode::try_from(v).ok(), ours::AccessCode::from_raw(v))),
         ];

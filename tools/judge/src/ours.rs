@@ -44,7 +44,9 @@ pub fn read(k: Kind, s: &[u8], w: Window, out: &mut Out) -> Result<(), Refusal> 
 }
 
 pub fn write(k: Kind, s: &mut [u8], w: Window, record: &[u64], out: &mut Out) -> Result<(), Refusal> {
-    Refusal::of_status(unsafe { writer(k)(s.as_mut_ptr(), s.len(), w.start, w.pos, w.end, record.as_ptr(), record.len(), out.as_mut_ptr(), out.len()) })
+    Refusal::of_status(unsafe {
+        writer(k)(s.as_mut_ptr(), s.len(), w.start, w.pos, w.end, record.as_ptr(), record.len(), out.as_mut_ptr(), out.len())
+    })
 }
 
 pub fn read_bits(s: &[u8], w: Window, n: usize, out: &mut Out) -> Result<(), Refusal> {

@@ -102,7 +102,8 @@ fn channels(visit: Visit) {
         for carrier in [0, 1, 4095, 4096, 65535] {
             for pattern in [0, 1, 2, 3, 4, 255] {
                 for frame18 in [None, Some(0), Some(3), Some(4), Some(255)] {
-                    let record = vec![v >> 8, v >> 4 & 15, v >> 2 & 3, v >> 1 & 1, v & 1, carrier, pattern, frame18.is_some() as u64, frame18.unwrap_or(0)];
+                    let record =
+                        vec![v >> 8, v >> 4 & 15, v >> 2 & 3, v >> 1 & 1, v & 1, carrier, pattern, frame18.is_some() as u64, frame18.unwrap_or(0)];
                     visit(Case { call: Call::ChannelLen, bytes: vec![], window: window(0, 0), numbers: record.clone() });
                     visit(write(Kind::Channel, v as usize % 9, 20 + v as usize % 8, record));
                 }
