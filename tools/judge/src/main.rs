@@ -1,4 +1,4 @@
-//! The original as judge: a live comparison, a benchmark and the recorded answers, over the C interface of this port.
+//! The original as judge: a live comparison, a benchmark and the recorded answers, over the bindings of this port.
 mod bench;
 mod bound;
 mod case;
