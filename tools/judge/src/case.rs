@@ -80,7 +80,8 @@ enum Theirs {
     /// Its own error or None: the bits are at their end, or a value has no meaning.
     Ended,
     Invalid,
-    Panics,
+    /// It panics, with this message.
+    Panics(String),
     /// A window that its setters do not take.
     NoWindow,
 }
@@ -115,6 +116,13 @@ fn theirs_on(c: &Case, b: &mut BitBuffer) -> Theirs {
     }
 }
 
+fn theirs_or_panic(c: &Case, b: &mut BitBuffer) -> Theirs {
+    std::panic::catch_unwind(std::panic::AssertUnwindSafe(|| theirs_on(c, b))).unwrap_or_else(|why| {
+        let text = why.downcast_ref::<&str>().map(|t| t.to_string()).or_else(|| why.downcast_ref::<String>().cloned());
+        Theirs::Panics(text.unwrap_or_default())
+    })
+}
+
 /// The cursor after the call, and the words of its answer.
 type Ours = Result<(usize, Vec<u64>), Refusal>;
 
@@ -144,19 +152,45 @@ fn cursor_kept(c: &Case, r: Refusal) -> bool {
     again == Err(r) && out[0] == c.window.pos as u64
 }
 
-/// Whether a refusal's number, and of a read its bit, fits what the original says where it refuses too.
+/// Whether a refusal's number, and of a read its bit, fits what the original says where it refuses too, and the bit where its cursor stopped.
 fn same_reason(c: &Case, theirs: &Theirs, cursor: usize, r: Refusal) -> bool {
+    let at = c.window.pos.saturating_add(r.bit);
     if r.number == Refusal::BAD_WINDOW {
         return r.bit == 0 && (matches!(theirs, Theirs::NoWindow) || c.window.end > 65536);
     }
     match (theirs, c.call) {
-        (Theirs::Ended, Call::Read(_)) => r.number == Refusal::READ_PAST_END && c.window.pos + r.bit == cursor,
+        (Theirs::Ended, Call::Read(_)) => r.number == Refusal::READ_PAST_END && at == cursor,
         (Theirs::Ended, _) => r == Refusal { number: Refusal::READ_PAST_END, bit: 0 },
         (Theirs::Invalid, _) => r == Refusal { number: Refusal::USAGE_MARKER, bit: 8 },
-        (Theirs::Panics, Call::PeekBits) => r == Refusal { number: Refusal::READ_PAST_END, bit: 0 },
-        (Theirs::Panics, Call::Read(_)) => matches!(r.number, 4..=6),
-        (Theirs::Panics, Call::ChannelLen | Call::HeaderLen | Call::UpdateLen) => r == Refusal { number: Refusal::AUGMENTED, bit: 0 },
-        (Theirs::Panics, _) => matches!(r.number, 2 | 3 | 6..=11 | 14) && r.bit == 0,
+        (Theirs::Panics(_), Call::PeekBits) => r == Refusal { number: Refusal::READ_PAST_END, bit: 0 },
+        (Theirs::Panics(why), Call::Read(k)) => match r.number {
+            Refusal::WRONG_PDU_TYPE => r.bit == 0 && cursor == at + if k == Kind::Access { 1 } else { 2 },
+            Refusal::EXTENDED_CARRIER => why.contains("Extended") && cursor == at + 1,
+            Refusal::AUGMENTED => why.contains("Augmented") && (cursor == at + 19 || cursor == at + 21),
+            _ => false,
+        },
+        (Theirs::Panics(why), Call::ChannelLen | Call::HeaderLen | Call::UpdateLen) => {
+            r == Refusal { number: Refusal::AUGMENTED, bit: 0 } && why.contains("Augmented")
+        }
+        (Theirs::Panics(why), _) => r.bit == 0 && written_reason(why, r.number),
+        _ => false,
+    }
+}
+
+/// The same of a write. The original writes field by field: it may meet the end of the window before what this port refuses, and it does not
+/// mind the markers and counts of 7 and 8 in docs/DIFFERENCES.md, so that anything later may stop it.
+fn written_reason(why: &str, number: u8) -> bool {
+    let room = why.contains("would exceed buffer end") || why.contains("up to 64 bits");
+    let wide = why.contains("value exceeds num_bits");
+    match number {
+        Refusal::WRITE_PAST_END => room,
+        Refusal::VALUE_TOO_WIDE => room || wide,
+        Refusal::AUGMENTED => room || why.contains("Augmented"),
+        Refusal::LENGTH => why.contains("length_ind must be set"),
+        Refusal::NULL_PDU => room || wide || why.contains("no meaning for Null PDU"),
+        Refusal::ENCRYPTED_ADDRESS => room || wide || why.contains("Esi"),
+        Refusal::NO_FRAME_18_PATTERN => room || why.contains("`None`"),
+        Refusal::USAGE_MARKER | Refusal::DELAY_COUNT => true,
         _ => false,
     }
 }
@@ -167,8 +201,8 @@ fn listed(c: &Case, answer: &[u64], cursor: usize, r: Refusal) -> Option<u8> {
     let told = |d: Option<(u8, u8)>| d.filter(|(_, number)| r.number == *number).map(|(n, _)| n);
     match c.call {
         _ if r.number == Refusal::BAD_WINDOW => (w.end > 65536).then_some(1),
-        Call::PeekBits => (w.pos as i128 + (c.numbers[0] as i64 as i128) < w.start as i128).then_some(2),
-        Call::Read(k) => told(listed_read(k, cursor - w.pos, answer)),
+        Call::PeekBits => (r.number == Refusal::READ_PAST_END && w.pos as i128 + (c.numbers[0] as i64 as i128) < w.start as i128).then_some(2),
+        Call::Read(k) => told(listed_read(k, cursor - w.pos, answer)).filter(|_| cursor == w.pos + r.bit && cursor == w.end),
         Call::Write(k) => told(listed_write(k, &c.numbers)),
         Call::UpdateLen => {
             let total = (original::resource(&c.numbers).compute_header_len() as u64).saturating_add(c.numbers[25]);
@@ -183,7 +217,7 @@ impl Case {
         let (theirs, cursor, left) = match original::buffer(&self.bytes, self.window) {
             None => (Theirs::NoWindow, self.window.pos, None),
             Some(mut b) => {
-                let answer = caught(|| Some(theirs_on(self, &mut b))).unwrap_or(Theirs::Panics);
+                let answer = theirs_or_panic(self, &mut b);
                 (answer, b.get_raw_pos(), Some(b.into_bytes()))
             }
         };
@@ -203,7 +237,7 @@ impl Case {
             (Theirs::Done(a), Err(r)) => listed(self, &a, cursor, r).map_or(Class::Wrong, Class::Listed),
             (theirs, Err(r)) => {
                 let moved = cursor != self.window.pos || *left != self.bytes;
-                match (same_reason(self, &theirs, cursor, r), moved, matches!(theirs, Theirs::Panics | Theirs::NoWindow)) {
+                match (same_reason(self, &theirs, cursor, r), moved, matches!(theirs, Theirs::Panics(_) | Theirs::NoWindow)) {
                     (false, _, _) => Class::Wrong,
                     (true, false, false) => Class::Refused,
                     (true, true, false) => Class::Refused3,
@@ -290,10 +324,10 @@ impl Case {
     /// What both sides answer.
     pub fn answers(&self) -> String {
         let theirs = original::buffer(&self.bytes, self.window).map(|mut b| {
-            let said = match caught(|| Some(theirs_on(self, &mut b))) {
-                Some(Theirs::Done(v)) => format!("gives {v:?}"),
-                Some(_) => "gives an error".to_string(),
-                None => "panics".to_string(),
+            let said = match theirs_or_panic(self, &mut b) {
+                Theirs::Done(v) => format!("gives {v:?}"),
+                Theirs::Panics(why) => format!("panics ({why})"),
+                _ => "gives an error".to_string(),
             };
             format!("{said}, cursor {}, {}", b.get_raw_pos(), hex(&b.into_bytes()))
         });
