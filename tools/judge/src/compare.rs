@@ -1,57 +1,11 @@
 //! The live comparison: each answer is equal, refused by both, or a listed difference; anything else fails.
+use crate::case::{Call, Case, Class};
 use crate::cases::{self, Rng};
 use crate::original::{self, caught};
-use crate::ours::{self, KINDS, Kind, Out, Refusal, Window};
-
-#[derive(Clone, Copy, PartialEq, Eq, PartialOrd, Ord, Debug)]
-pub enum Class {
-    Equal,
-    BothRefuse,
-    /// The number of the entry in docs/DIFFERENCES.md.
-    Listed(u8),
-    Wrong,
-}
-
-#[derive(Default)]
-pub struct Counts {
-    rows: std::collections::BTreeMap<(String, Class), u64>,
-    smallest: Option<(usize, String)>,
-}
-
-impl Counts {
-    pub fn add(&mut self, what: &str, c: Class, size: usize, input: impl FnOnce() -> String) {
-        *self.rows.entry((what.to_string(), c)).or_default() += 1;
-        if c == Class::Wrong && self.smallest.as_ref().is_none_or(|(n, _)| size < *n) {
-            self.smallest = Some((size, format!("{what}: {}", input())));
-        }
-    }
-
-    pub fn show(&self) -> bool {
-        let mut all = 0;
-        for ((what, c), n) in &self.rows {
-            println!("{what:28} {:24} {n:>10}", format!("{c:?}"));
-            all += n;
-        }
-        println!("{:28} {:24} {all:>10}", "all", "");
-        if let Some((_, input)) = &self.smallest {
-            println!("smallest wrong input: {input}");
-        }
-        self.smallest.is_none()
-    }
-}
-
-fn class_of<T: PartialEq>(theirs: Option<T>, ours: Result<T, Refusal>, listed: impl FnOnce(&T, Refusal) -> Option<u8>) -> Class {
-    match (theirs, ours) {
-        (Some(a), Ok(b)) if a == b => Class::Equal,
-        (None, Err(_)) => Class::BothRefuse,
-        (Some(a), Err(r)) => listed(&a, r).map_or(Class::Wrong, Class::Listed),
-        _ => Class::Wrong,
-    }
-}
-
-pub fn hex(b: &[u8]) -> String {
-    b.iter().map(|v| format!("{v:02x}")).collect()
-}
+use crate::ours::{KINDS, Kind, Window};
+use crate::{names, sweep};
+use std::collections::BTreeMap;
+use tetra_core::BitBuffer;
 
 /// A difference of docs/DIFFERENCES.md: its number, and the number of the refusal that this port gives.
 pub type Difference = Option<(u8, u8)>;
@@ -74,120 +28,191 @@ pub fn listed_write(k: Kind, r: &[u64]) -> Difference {
     }
 }
 
-fn told(d: Difference, r: Refusal) -> Option<u8> {
-    d.filter(|(_, number)| r.number == *number).map(|(n, _)| n)
+const CLASSES: [(Class, &str); 11] = [
+    (Class::Equal, "equal"),
+    (Class::Refused, "refused"),
+    (Class::Refused3, "refused, 3"),
+    (Class::Refused5, "refused, 5"),
+    (Class::Refused35, "refused, 3 5"),
+    (Class::Listed(1), "1"),
+    (Class::Listed(2), "2"),
+    (Class::Listed(6), "6"),
+    (Class::Listed(7), "7"),
+    (Class::Listed(8), "8"),
+    (Class::Listed(9), "9"),
+];
+
+#[derive(Default)]
+struct Counts {
+    /// By the call's name; a call's row stands where it first came.
+    rows: Vec<(&'static str, BTreeMap<Class, u64>)>,
+    /// The smallest case of each class that is a difference, and of those that are wrong.
+    smallest: BTreeMap<Class, Case>,
+    all: u64,
 }
 
-pub fn read_class(k: Kind, s: &[u8], w: Window) -> Class {
-    let theirs = original::buffer(s, w).and_then(|mut b| caught(|| original::read(k, &mut b)));
-    let mut out: Out = [0; 26];
-    let ours = ours::read(k, s, w, &mut out).map(|()| (out[0] as usize, out[1..1 + k.words()].to_vec()));
-    if ours.is_err() && out[0] as usize != w.pos {
-        return Class::Wrong;
+impl Counts {
+    fn add(&mut self, case: Case) {
+        let class = case.class();
+        let name = case.call.name();
+        let at = self.rows.iter().position(|(n, _)| *n == name).unwrap_or_else(|| {
+            self.rows.push((name, BTreeMap::new()));
+            self.rows.len() - 1
+        });
+        *self.rows[at].1.entry(class).or_default() += 1;
+        self.all += 1;
+        let plain = matches!(class, Class::Equal | Class::Refused);
+        if !plain && self.smallest.get(&class).is_none_or(|c| case.size() < c.size()) {
+            self.smallest.insert(class, case);
+        }
     }
-    class_of(theirs, ours, |t, r| told(listed_read(k, t.0 - w.pos, &t.1), r))
-}
 
-pub fn write_class(k: Kind, s: &[u8], w: Window, record: &[u64]) -> Class {
-    let theirs = original::buffer(s, w).and_then(|mut b| caught(move || original::write(k, &mut b, record).map(|p| (p, b.into_bytes()))));
-    let mut out: Out = [0; 26];
-    let mut t = s.to_vec();
-    let ours = ours::write(k, &mut t, w, record, &mut out);
-    if ours.is_err() && (t != s || out[0] as usize != w.pos) {
-        return Class::Wrong;
+    /// The counts as a table, and whether nothing was wrong.
+    fn show(mut self) -> bool {
+        println!("| {:27} | {:>9} |{} wrong |", "call", "cases", CLASSES.map(|(_, name)| format!(" {name:>12} |")).concat());
+        println!("|{}", "---|".repeat(3 + CLASSES.len()));
+        self.rows.sort_by_key(|(name, _)| *name);
+        let mut totals: BTreeMap<Class, u64> = BTreeMap::new();
+        for (name, counts) in &self.rows {
+            row(name, counts);
+            counts.iter().for_each(|(c, n)| *totals.entry(*c).or_default() += n);
+        }
+        row("all", &totals);
+        println!("the smallest of each:");
+        for (class, case) in self.smallest {
+            let case = case.shrunk();
+            let name = CLASSES.iter().find(|(c, _)| *c == class).map_or("wrong", |(_, name)| name);
+            println!("{name}: {}: {}", case.show(), case.answers());
+        }
+        !totals.contains_key(&Class::Wrong)
     }
-    class_of(theirs, ours.map(|()| (out[0] as usize, t)), |_, r| told(listed_write(k, record), r))
 }
 
-fn bits_classes(g: &mut Rng, c: &mut Counts) {
+fn row(name: &str, counts: &BTreeMap<Class, u64>) {
+    let count = |c: Class| counts.get(&c).copied().unwrap_or(0);
+    let cells = CLASSES.map(|(c, _)| format!(" {:>12} |", count(c))).concat();
+    println!("| {name:27} | {:>9} |{cells} {:>5} |", counts.values().sum::<u64>(), count(Class::Wrong));
+}
+
+/// A window that may be no good, once in 16 with a number that is far off.
+fn any_window(g: &mut Rng, bytes: usize) -> Window {
+    let mut w = cases::window(g, bytes);
+    let bits = 8 * bytes as u64;
+    if g.once_in(12) {
+        let place = [&mut w.start, &mut w.pos, &mut w.end];
+        let v = if g.once_in(4) { g.next() >> g.below(64) } else { g.below(bits + 10) };
+        *place.into_iter().nth(g.below(3) as usize).unwrap() = v as usize;
+    }
+    w
+}
+
+/// Reads of a type: random bits, a good one whole, cut or damaged, and good ones cut at every bit around it.
+fn reads(g: &mut Rng, k: Kind, c: &mut Counts) {
+    let (mut bytes, mut window) = cases::to_read(g, k);
+    if g.once_in(8) {
+        window = any_window(g, bytes.len());
+    }
+    if g.once_in(4) && !bytes.is_empty() {
+        for _ in 0..1 + g.below(3) {
+            let at = g.below(8 * bytes.len() as u64) as usize;
+            bytes[at / 8] ^= 0x80 >> (at % 8);
+        }
+    }
+    c.add(Case { call: Call::Read(k), bytes, window, numbers: vec![] });
+    if !g.once_in(30) {
+        return;
+    }
+    let start = g.below(17) as usize;
+    let s = cases::bytes(g, 15);
+    let Some(mut b) = original::buffer(&s, Window { start, pos: start, end: 120 }) else { return };
+    let record = cases::record(g, k);
+    let Some(end) = caught(|| original::write(k, &mut b, &record)) else { return };
+    let s = b.into_bytes();
+    for cut in start..=(end + 2).min(120) {
+        c.add(Case { call: Call::Read(k), bytes: s.clone(), window: Window { start, pos: start, end: cut }, numbers: vec![] });
+    }
+}
+
+/// A record that the original writes where there is room, if one of a few is.
+fn good_record(g: &mut Rng, k: Kind) -> Vec<u64> {
+    let mut record = cases::record(g, k);
+    for _ in 0..6 {
+        let mut b = BitBuffer::new(128);
+        if caught(|| original::write(k, &mut b, &record)).is_some() {
+            break;
+        }
+        record = cases::record(g, k);
+    }
+    record
+}
+
+fn writes(g: &mut Rng, k: Kind, c: &mut Counts) {
+    let numbers = if g.once_in(2) { good_record(g, k) } else { cases::record(g, k) };
+    let roomy = !g.once_in(3);
+    let n = if roomy { 14 + g.below(7) } else { g.below(21) } as usize;
+    let bytes = cases::bytes(g, n);
+    let mut window = any_window(g, n);
+    if roomy && window.end == 8 * n {
+        window.start %= 20;
+        window.pos = window.start;
+    }
+    c.add(Case { call: Call::Write(k), bytes, window, numbers });
+}
+
+fn bits(g: &mut Rng, c: &mut Counts) {
     let n = g.below(21) as usize;
-    let s = cases::bytes(g, n);
-    let w = cases::window(g, n);
-    let width = g.below(67) as usize;
-    let mut out: Out = [0; 26];
-    let theirs = original::buffer(&s, w).and_then(|mut b| caught(|| b.read_bits(width).map(|v| (b.get_raw_pos(), v))));
-    let ours = ours::read_bits(&s, w, width, &mut out).map(|()| (out[0] as usize, out[1]));
-    c.add("read_bits", class_of(theirs, ours, |_, _| None), n, || format!("{} {w:?} {width}", hex(&s)));
+    let bytes = cases::bytes(g, n);
+    let window = any_window(g, n);
+    let width = if g.once_in(50) { g.next() >> g.below(64) } else { g.below(67) };
+    c.add(Case { call: Call::ReadBits, bytes: bytes.clone(), window, numbers: vec![width] });
 
-    let offset = g.below(200) as isize - 100;
-    let theirs = original::buffer(&s, w).and_then(|b| caught(|| b.peek_bits_posoffset(offset, width).map(|v| (b.get_raw_pos(), v))));
-    let ours = ours::peek_bits(&s, w, offset, width, &mut out).map(|()| (out[0] as usize, out[1]));
-    let before = (w.pos as isize) + offset < w.start as isize;
-    c.add("peek_bits_posoffset", class_of(theirs, ours, |_, r| (before && r.number == 1).then_some(2)), n, || {
-        format!("{} {w:?} {offset} {width}", hex(&s))
-    });
+    let offset = if g.once_in(20) { g.next() } else { g.below(200).wrapping_sub(100) };
+    c.add(Case { call: Call::PeekBits, bytes: bytes.clone(), window, numbers: vec![offset, width] });
 
-    let value = if width < 64 { g.next() >> (64 - width.clamp(1, 63)) } else { g.next() };
-    let value = if g.once_in(8) { g.next() } else { value };
-    let theirs = original::buffer(&s, w).and_then(|mut b| {
-        caught(move || {
-            b.write_bits(value, width);
-            Some((b.get_raw_pos(), b.into_bytes()))
-        })
-    });
-    let mut t = s.clone();
-    let ours = ours::write_bits(&mut t, w, value, width, &mut out);
-    let ours = if ours.is_err() && t != s { Ok((usize::MAX, t)) } else { ours.map(|()| (out[0] as usize, t)) };
-    c.add("write_bits", class_of(theirs, ours, |_, _| None), n, || format!("{} {w:?} {value} {width}", hex(&s)));
+    let fitting = if width < 64 { g.next() & ((1 << width) - 1) } else { g.next() };
+    let value = if g.once_in(8) { g.next() >> g.below(64) } else { fitting };
+    c.add(Case { call: Call::WriteBits, bytes, window, numbers: vec![value, width] });
 }
 
-fn length_classes(g: &mut Rng, c: &mut Counts) {
-    let mut out: Out = [0; 26];
-    let r = cases::record(g, Kind::Channel);
-    let theirs = caught(|| Some(original::channel(&r).compute_len() as u64));
-    let ours = ours::channel_len(&r, &mut out).map(|()| out[0]);
-    c.add("compute_len", class_of(theirs, ours, |_, _| None), 9, || format!("{r:?}"));
-
-    let r = cases::record(g, Kind::Resource);
-    let theirs = caught(|| Some(original::resource(&r).compute_header_len() as u64));
-    let ours = ours::header_len(&r, &mut out).map(|()| out[0]);
-    c.add("compute_header_len", class_of(theirs, ours, |_, _| None), 25, || format!("{r:?}"));
-
-    let content = if g.once_in(4) { g.below(3000) } else { g.below(500) } as usize;
-    let theirs = caught(|| {
-        let mut h = original::resource(&r);
-        let fill = h.update_len_and_fill_ind(content);
-        Some((h.length_ind as u64, h.fill_bits as u64, fill as u64))
-    });
-    let ours = ours::update_len(&r, content, &mut out).map(|()| (out[0], out[1], out[2]));
-    c.add("update_len_and_fill_ind", class_of(theirs, ours, |_, r| (r.number == 8).then_some(9)), 25, || format!("{r:?} {content}"));
+fn lengths(g: &mut Rng, c: &mut Counts) {
+    let window = Window { start: 0, pos: 0, end: 0 };
+    let mut put = |call: Call, numbers: Vec<u64>| c.add(Case { call, bytes: vec![], window, numbers });
+    put(Call::ChannelLen, cases::record(g, Kind::Channel));
+    let record = cases::record(g, Kind::Resource);
+    put(Call::HeaderLen, record.clone());
+    let content = if g.once_in(4) { g.next() >> g.below(64) } else { g.below(500) };
+    put(Call::UpdateLen, [record, vec![content]].concat());
 }
 
-/// Every ACCESS-ASSIGN and every slot grant, and both cut at every bit.
-fn exhaustive(c: &mut Counts) {
-    for v in 0..1u32 << 14 {
-        let s = ((v << 2) as u16).to_be_bytes();
-        for end in [14, 13, 8, 7, 2, 1, 0] {
-            let w = Window { start: 0, pos: 0, end };
-            c.add("read Assign", read_class(Kind::Assign, &s, w), 2, || format!("{} {w:?}", hex(&s)));
+/// At least so many cases: the sweeps, or an even part of them that is at most half, then random ones.
+pub fn run(least: u64, seed: u64) -> bool {
+    match names::compared() {
+        Ok(n) => println!("{n} codes of four enums: their cases have the original's names"),
+        Err(code) => {
+            println!("another name than the original's: {code}");
+            return false;
         }
     }
-    for v in 0..=255u8 {
-        for end in 0..=8 {
-            let w = Window { start: 0, pos: 0, end };
-            c.add("read Slotgrant", read_class(Kind::Slotgrant, &[v], w), 1, || format!("{v:02x} {w:?}"));
-        }
-    }
-}
-
-pub fn run(cases: u64, seed: u64) -> bool {
+    let mut total = 0u64;
+    sweep::all(&mut |_| total += 1);
+    let stride = (2 * total).div_ceil(least.max(1)).max(1);
     let mut c = Counts::default();
-    exhaustive(&mut c);
-    let mut g = Rng(seed);
-    for i in 0..cases / 9 {
-        for k in KINDS {
-            if i % 2 == 0 {
-                let (s, w) = cases::to_read(&mut g, k);
-                c.add(&format!("read {k:?}"), read_class(k, &s, w), s.len(), || format!("{} {w:?}", hex(&s)));
-            } else {
-                let n = g.below(21) as usize;
-                let s = cases::bytes(&mut g, n);
-                let w = cases::window(&mut g, n);
-                let r = cases::record(&mut g, k);
-                c.add(&format!("write {k:?}"), write_class(k, &s, w, &r), n, || format!("{} {w:?} {r:?}", hex(&s)));
-            }
+    let mut at = seed;
+    sweep::all(&mut |case| {
+        at += 1;
+        if at % stride == 0 {
+            c.add(case);
         }
-        if i % 2 == 0 { bits_classes(&mut g, &mut c) } else { length_classes(&mut g, &mut c) }
+    });
+    println!("seed {seed}: {} cases in turn, of {total}", c.all);
+    let mut g = Rng(seed);
+    while c.all < least {
+        for k in KINDS {
+            reads(&mut g, k, &mut c);
+            writes(&mut g, k, &mut c);
+        }
+        bits(&mut g, &mut c);
+        lengths(&mut g, &mut c);
     }
     c.show()
 }

@@ -1,10 +1,14 @@
-//! The original as judge: a live comparison, a benchmark and the recorded answers, over the C interface of this port.
+//! The original as judge: a live comparison, a benchmark and the recorded answers, over the bindings of this port.
 mod bench;
+mod bound;
+mod case;
 mod cases;
 mod compare;
+mod names;
 mod original;
 mod ours;
 mod record;
+mod sweep;
 
 fn number(words: &[String], at: usize, otherwise: u64) -> u64 {
     words.get(at).map_or(otherwise, |v| v.parse().expect("a number"))

@@ -1,0 +1,24 @@
+//! Has `rt staticlib tetra_mac` prove and write the static library in the repository's root, where it is older than a source, and links it.
+//! With LIBTETRA_MAC set, the folder of a libtetra_mac.a that is there already, it only links.
+use std::path::{Path, PathBuf};
+use std::process::{Command, Stdio};
+
+fn proved() -> PathBuf {
+    let root = Path::new(env!("CARGO_MANIFEST_DIR")).join("../..");
+    for input in ["crates", "crates.txt"] {
+        println!("cargo:rerun-if-changed={}", root.join(input).display());
+    }
+    match Command::new(root.join("bindings/staticlib")).stderr(Stdio::inherit()).output() {
+        Ok(done) if done.status.success() => PathBuf::from(String::from_utf8_lossy(&done.stdout).trim_end()),
+        Ok(done) => panic!("rt staticlib tetra_mac: {}", done.status),
+        Err(e) => panic!("bindings/staticlib: {e}"),
+    }
+}
+
+fn main() {
+    println!("cargo:rerun-if-env-changed=LIBTETRA_MAC");
+    let folder = std::env::var_os("LIBTETRA_MAC").map_or_else(proved, PathBuf::from);
+    println!("cargo:rerun-if-changed={}", folder.join("libtetra_mac.a").display());
+    println!("cargo:rustc-link-search=native={}", folder.display());
+    println!("cargo:rustc-link-lib=static=tetra_mac");
+}
