@@ -13,12 +13,13 @@ use tetra_fields::fields::channel_allocation;
 use tetra_fields::fields::channel_allocation::ChanAllocElement;
 use tetra_fields::fields::channel_allocation::ChannelAllocationPart;
 ghost use mathlib.Core.Path.{_≡_};
+ghost use mathlib.Core.Bool.{true};
 ghost use Prim.Native.Nat.{_+_, _*_, _≤_};
 ghost use lib.ListN.{length};
 ghost use Rattle.bits.specs.Bits.{putBits};
 ghost use Rattle.tetra_core.specs.Laws.Windows.{Good};
 ghost use Rattle.codec.specs.Header.{within, Reads};
-ghost use Rattle.codec.specs.Ahead.{Held, Ready, ReadsNext};
+ghost use Rattle.codec.specs.Ahead.{Held, NextBits, Ready, ReadsNext};
 ghost use Rattle.codec.specs.Row.{rowBits};
 ghost use Rattle.mac_resource.specs.Piece.{Holds};
 ghost use Rattle.mac_resource.specs.Elements.{readPower, powerOut, readGranting, grantingOut, readAllocation, allocationOut, readElements, elementsOut, powerRefusal, grantingRefusal, allocationRefusal, elementsRefusal, powerLen, grantingLen, allocationLen, elementsLen, allocationLenRefusal, powerRow, grantingRow, flagRow, flagsBits, flagsLen, elementsBits};
@@ -170,27 +171,36 @@ fn read_each(s: &[u8], c: Cursor, o: usize) -> ElementsPart
     }
 }
 
-// The elements that are ahead. Most headers have none: then the three flags are one word.
+// Whether the three flags that are ahead are there and none of them is set.
+fn no_element(a: Ahead) -> bool
+    requires { ⌜ Ready a 3 ⌝ }
+    ensures { λ r. ⌜ (r ≡ true → NextBits a 3 0 × (3 ≤ a .left)) ⌝ }
+{
+    let left = a.left;
+    if left < 3 {
+        return false;
+    }
+    codec::take(a, 3) == 0
+}
+
+// The elements that are ahead. Most headers have none: then the three flags are one word. The other case is called from here alone, so that
+// the compiler puts it here and no element goes through memory.
 pub(crate) fn read_elements(s: &[u8], c: Cursor, a: Ahead) -> ElementsPart
     requires { ⌜ Good (length (now s)) c × Held (within (now s) c) a × Ready a 3 ⌝ }
     ensures { λ r. ⌜ Reads elementsOut readElements (within (now (s .entry)) c) (a .at) r ⌝ }
 {
-    let left = a.left;
     let o = a.at;
-    if left < 3 {
-        return read_each(s, c, o);
+    if no_element(a) {
+        return ElementsPart::Read(
+            Elements {
+                power_control_element: PowerControl::Without,
+                slot_granting_element: SlotGranting::Without,
+                chan_alloc_element: ChannelAllocation::Without,
+            },
+            o + 3,
+        );
     }
-    if codec::take(a, 3) != 0 {
-        return read_each(s, c, o);
-    }
-    ElementsPart::Read(
-        Elements {
-            power_control_element: PowerControl::Without,
-            slot_granting_element: SlotGranting::Without,
-            chan_alloc_element: ChannelAllocation::Without,
-        },
-        o + 3,
-    )
+    read_each(s, c, o)
 }
 
 // Why an element is not written, or 0.
