@@ -1,74 +1,86 @@
-//! Both sides in one process on the same inputs: nanoseconds a call, as a ratio to the original, with the spread over runs.
+//! Both sides in one process on the same inputs: nanoseconds a call and the ratio to the original, with its spread over runs. This port is
+//! measured through its C interface, as a call of its own and with the record of words made or taken apart; the original on values of its own.
 use crate::original;
 use crate::ours::{self, Kind, Out, Window};
 use std::hint::black_box;
 use std::time::Instant;
 use tetra_core::BitBuffer;
 
-const CALLS: usize = 200_000;
-const RUNS: usize = 11;
+/// A run is short, so that both sides of a ratio meet the same state of the machine.
+const CALLS: usize = 2_000;
+const RUNS: usize = 501;
 
-fn once(mut f: impl FnMut()) -> f64 {
+/// A loop of so many calls.
+type Calls = Box<dyn FnMut(usize)>;
+
+struct Operation {
+    name: String,
+    theirs: Calls,
+    ours: Calls,
+}
+
+fn calls(mut call: impl FnMut() + 'static) -> Calls {
+    Box::new(move |n| (0..n).for_each(|_| call()))
+}
+
+fn nanoseconds(f: &mut Calls) -> f64 {
     let began = Instant::now();
-    for _ in 0..CALLS {
-        f();
-    }
+    f(CALLS);
     began.elapsed().as_nanos() as f64 / CALLS as f64
 }
 
-fn row(what: &str, mut theirs: impl FnMut(), mut ours: impl FnMut()) {
-    let mut ratios = Vec::new();
-    let (mut a, mut b) = (Vec::new(), Vec::new());
-    for _ in 0..RUNS {
-        let t = once(&mut theirs);
-        let o = once(&mut ours);
-        ratios.push(t / o);
-        a.push(t);
-        b.push(o);
-    }
-    for v in [&mut ratios, &mut a, &mut b] {
-        v.sort_by(f64::total_cmp);
-    }
-    println!(
-        "{what:44} {:8.1} ns {:8.1} ns {:6.2}  ({:.2} to {:.2})",
-        a[RUNS / 2],
-        b[RUNS / 2],
-        ratios[RUNS / 2],
-        ratios[1],
-        ratios[RUNS - 2]
-    );
+/// The ratio is the middle one of the runs, with those that a tenth of them lie below and above; the times are those that a twentieth lies below.
+fn measure(o: &mut Operation) {
+    let mut runs: Vec<[f64; 3]> = (0..RUNS)
+        .map(|_| {
+            let (t, u) = (nanoseconds(&mut o.theirs), nanoseconds(&mut o.ours));
+            [t, u, t / u]
+        })
+        .collect();
+    let mut at = |column: usize, part: usize| {
+        runs.sort_by(|a, b| a[column].total_cmp(&b[column]));
+        runs[part * (RUNS - 1) / 20][column]
+    };
+    println!("{:36} {:8.1} {:8.1} {:6.2}  {:.2} to {:.2}", o.name, at(0, 1), at(1, 1), at(2, 10), at(2, 2), at(2, 18));
 }
 
-fn header(what: &str, k: Kind, record: &[u64]) {
-    let mut s = vec![0u8; 34];
-    let whole = Window { start: 0, pos: 0, end: 272 };
+const BYTES: usize = 34;
+const WHOLE: Window = Window { start: 0, pos: 0, end: 8 * BYTES };
+
+fn read_header(what: &str, k: Kind, s: Vec<u8>, bits: u64) -> Operation {
+    let mut b = original::buffer(&s, WHOLE).unwrap();
     let mut out: Out = [0; 26];
-    ours::write(k, &mut s, whole, record, &mut out).expect("a good record");
-    let bits = out[0];
-    let mut b = original::buffer(&s, whole).unwrap();
-    row(
-        &format!("read {what}, {bits} bits"),
-        || {
+    Operation {
+        name: format!("read {what}, {bits} bits"),
+        theirs: calls(move || {
             b.set_raw_pos(0);
             black_box(read_original(k, &mut b));
-        },
-        || {
-            black_box(ours::read(k, black_box(&s), whole, &mut out)).unwrap();
-        },
-    );
-    let value = Value::of(k, record);
-    let mut b = original::buffer(&vec![0u8; 34], whole).unwrap();
-    let mut t = vec![0u8; 34];
-    row(
-        &format!("write {what}, {bits} bits"),
-        || {
+        }),
+        ours: calls(move || black_box(ours::read(k, black_box(&s), WHOLE, &mut out)).unwrap()),
+    }
+}
+
+fn write_header(what: &str, k: Kind, record: Vec<u64>, bits: u64) -> Operation {
+    let value = Value::of(k, &record);
+    let mut b = original::buffer(&[0; BYTES], WHOLE).unwrap();
+    let mut t = vec![0u8; BYTES];
+    let mut out: Out = [0; 26];
+    Operation {
+        name: format!("write {what}, {bits} bits"),
+        theirs: calls(move || {
             b.set_raw_pos(0);
             value.write(black_box(&mut b));
-        },
-        || {
-            black_box(ours::write(k, black_box(&mut t), whole, record, &mut out)).unwrap();
-        },
-    );
+        }),
+        ours: calls(move || black_box(ours::write(k, black_box(&mut t), WHOLE, &record, &mut out)).unwrap()),
+    }
+}
+
+fn header(all: &mut Vec<Operation>, what: &str, k: Kind, record: &[u64]) {
+    let mut s = vec![0u8; BYTES];
+    let mut out: Out = [0; 26];
+    ours::write(k, &mut s, WHOLE, record, &mut out).expect("a good record");
+    all.push(read_header(what, k, s, out[0]));
+    all.push(write_header(what, k, record.to_vec(), out[0]));
 }
 
 /// The original's values, built before the clock starts.
@@ -117,58 +129,70 @@ fn read_original(k: Kind, b: &mut BitBuffer) -> bool {
     }
 }
 
-fn bits(n: usize, pos: usize) {
-    let s: Vec<u8> = (0..34u8).map(|i| i.wrapping_mul(37)).collect();
-    let w = Window { start: 0, pos, end: 272 };
-    let mut out: Out = [0; 26];
-    let mut b = original::buffer(&s, w).unwrap();
-    row(
-        &format!("read {n} bits at bit {pos}"),
-        || {
+fn bits(all: &mut Vec<Operation>, n: usize, pos: usize) {
+    let s: Vec<u8> = (0..BYTES as u8).map(|i| i.wrapping_mul(37)).collect();
+    let w = Window { pos, ..WHOLE };
+    let value = 0x5aa5_5aa5_5aa5_5aa5u64 >> (64 - n);
+    let (mut b, mut c) = (original::buffer(&s, w).unwrap(), original::buffer(&s, w).unwrap());
+    let (mut out, mut also): (Out, Out) = ([0; 26], [0; 26]);
+    let mut t = s.clone();
+    all.push(Operation {
+        name: format!("read {n} bits at bit {pos}"),
+        theirs: calls(move || {
             b.set_raw_pos(pos);
             black_box(b.read_bits(black_box(n)));
-        },
-        || {
-            black_box(ours::read_bits(black_box(&s), w, black_box(n), &mut out)).unwrap();
-        },
-    );
-    let mut t = s.clone();
-    let value = 0x5aa5_5aa5_5aa5_5aa5u64 >> (64 - n);
-    row(
-        &format!("write {n} bits at bit {pos}"),
-        || {
-            b.set_raw_pos(pos);
-            b.write_bits(black_box(value), black_box(n));
-        },
-        || {
-            black_box(ours::write_bits(black_box(&mut t), w, black_box(value), black_box(n), &mut out)).unwrap();
-        },
-    );
+        }),
+        ours: calls(move || black_box(ours::read_bits(black_box(&s), w, black_box(n), &mut out)).unwrap()),
+    });
+    all.push(Operation {
+        name: format!("write {n} bits at bit {pos}"),
+        theirs: calls(move || {
+            c.set_raw_pos(pos);
+            c.write_bits(black_box(value), black_box(n));
+        }),
+        ours: calls(move || black_box(ours::write_bits(black_box(&mut t), w, black_box(value), black_box(n), &mut also)).unwrap()),
+    });
+}
+
+fn operations() -> Vec<Operation> {
+    let mut all = Vec::new();
+    for n in [1, 7, 24, 64] {
+        bits(&mut all, n, 8);
+        bits(&mut all, n, 13);
+    }
+    let mut null = [0u64; 25];
+    null[4] = 2;
+    let mut small = [0u64; 25];
+    (small[4], small[5], small[7]) = (6, 1, 1);
+    let mut full = small;
+    (full[5], full[8]) = (5, 7);
+    full[9..15].copy_from_slice(&[1, 3, 1, 4, 1, 5]);
+    full[15..25].copy_from_slice(&[1, 0, 8, 3, 0, 1, 77, 0, 1, 2]);
+    header(&mut all, "MAC-RESOURCE, null", Kind::Resource, &null);
+    header(&mut all, "MAC-RESOURCE, SSI", Kind::Resource, &small);
+    header(&mut all, "MAC-RESOURCE, all", Kind::Resource, &full);
+    header(&mut all, "slot grant", Kind::Slotgrant, &[4, 1, 5]);
+    header(&mut all, "channel allocation", Kind::Channel, &[0, 8, 3, 0, 1, 77, 0, 1, 2]);
+    header(&mut all, "ACCESS-ASSIGN", Kind::Assign, &[3, 4, 5, 4, 6]);
+    header(&mut all, "MAC-ACCESS", Kind::Access, &[0, 0, 0, 1, 1, 2, 1, 4]);
+    header(&mut all, "MAC-DATA", Kind::Data, &[0, 0, 0, 1, 1, 2, 1, 4]);
+    all
 }
 
 pub fn run() -> bool {
-    println!("{:44} {:>11} {:>11} {:>6}", "", "original", "this port", "ratio");
-    for n in [1, 7, 24, 64] {
-        bits(n, 8);
-        bits(n, 13);
-        bits(n, 205);
-    }
-    let mut small = [0u64; 25];
-    (small[4], small[5], small[7]) = (6, 1, 1);
-    header("MAC-RESOURCE, SSI", Kind::Resource, &small);
-    let mut full = small;
-    full[5] = 5;
-    full[8] = 7;
-    full[9..15].copy_from_slice(&[1, 3, 1, 4, 1, 5]);
-    full[15..25].copy_from_slice(&[1, 0, 8, 3, 0, 1, 77, 0, 1, 2]);
-    header("MAC-RESOURCE, all", Kind::Resource, &full);
-    let mut null = [0u64; 25];
-    null[4] = 2;
-    header("MAC-RESOURCE, null", Kind::Resource, &null);
-    header("slot grant", Kind::Slotgrant, &[4, 1, 5]);
-    header("channel allocation", Kind::Channel, &[0, 8, 3, 0, 1, 77, 0, 1, 2]);
-    header("ACCESS-ASSIGN", Kind::Assign, &[3, 4, 5, 4, 6]);
-    header("MAC-ACCESS", Kind::Access, &[0, 0, 0, 1, 1, 2, 1, 4]);
-    header("MAC-DATA", Kind::Data, &[0, 0, 0, 1, 1, 2, 1, 4]);
+    println!("{:36} {:>8} {:>8} {:>6}  {}", "nanoseconds a call", "original", "port", "ratio", "spread");
+    operations().iter_mut().for_each(measure);
+    true
+}
+
+/// The names of all operations; or one side of the operation of a number, so many times, for a count of instructions.
+pub fn alone(which: Option<usize>, ours: bool, n: usize) -> bool {
+    let mut all = operations();
+    let Some(at) = which else {
+        all.iter().for_each(|o| println!("{}", o.name));
+        return true;
+    };
+    let Some(o) = all.get_mut(at) else { return false };
+    (if ours { &mut o.ours } else { &mut o.theirs })(n);
     true
 }
