@@ -1,0 +1,368 @@
+// Replays the answers of the original that the list, standard input, has over the proved library. It prints how many calls of each kind
+// answered alike, and each that did not.
+mod calls;
+mod list;
+
+use libc::STDIN_FILENO;
+use libc::STDOUT_FILENO;
+use list::Record;
+use list::Words;
+
+// ---- printing
+
+fn text(t: &[u8]) {
+    io::write_all(STDOUT_FILENO, t);
+}
+
+fn digits(n: u64) {
+    text(b" ");
+    io::print_decimal(STDOUT_FILENO, n);
+}
+
+fn kind(k: u64) {
+    match k {
+        0 => text(b" slot grant"),
+        1 => text(b" channel allocation"),
+        2 => text(b" MAC-RESOURCE"),
+        3 => text(b" ACCESS-ASSIGN"),
+        4 => text(b" MAC-ACCESS"),
+        5 => text(b" MAC-DATA"),
+        _ => text(b" unknown"),
+    }
+}
+
+fn other(call: u64) {
+    match call {
+        32 => text(b"read_bits"),
+        33 => text(b"peek_bits_posoffset"),
+        34 => text(b"write_bits"),
+        40 => text(b"compute_len"),
+        41 => text(b"compute_header_len"),
+        42 => text(b"update_len_and_fill_ind"),
+        _ => text(b"unknown"),
+    }
+}
+
+fn name(call: u64) {
+    if call < 16 {
+        text(b"read");
+        kind(call);
+        return;
+    }
+    if call < 32 {
+        text(b"write");
+        kind(call - 16);
+        return;
+    }
+    other(call);
+}
+
+// ---- counting: for each call the cases that are equal, refused by both, a listed difference, and different; at 192 all cases
+
+fn add(counts: &mut [u64; 193], at: u64) {
+    if at < 193 {
+        let i = at as usize;
+        counts[i] = std::num::wrapping_add_u64(counts[i], 1);
+    }
+}
+
+fn column(class: u64, same: bool) -> u64 {
+    if !same {
+        return 3;
+    }
+    if class < 2 {
+        return class;
+    }
+    2
+}
+
+// Where a call's cases are counted.
+fn place(call: u64, column: u64) -> u64 {
+    if 47 < call {
+        return 192;
+    }
+    if 3 < column {
+        return 192;
+    }
+    4 * call + column
+}
+
+fn count(counts: &mut [u64; 193], call: u64, class: u64, same: bool) {
+    add(counts, place(call, column(class, same)));
+    add(counts, 192);
+}
+
+fn counted(counts: &[u64; 193], at: u64) -> u64 {
+    if at < 193 { counts[at as usize] } else { 0 }
+}
+
+// The last column of every call together.
+fn different(counts: &[u64; 193]) -> u64 {
+    let mut sum: u64 = 0;
+    let mut call: u64 = 0;
+    while call < 48 {
+        sum = std::num::wrapping_add_u64(sum, counted(counts, place(call, 3)));
+        call += 1;
+    }
+    sum
+}
+
+fn row(counts: &[u64; 193], call: u64) {
+    let equal = counted(counts, place(call, 0));
+    let refused = counted(counts, place(call, 1));
+    let listed = counted(counts, place(call, 2));
+    let different = counted(counts, place(call, 3));
+    if equal == 0 {
+        if refused == 0 {
+            if listed == 0 {
+                if different == 0 {
+                    return;
+                }
+            }
+        }
+    }
+    name(call);
+    text(b":");
+    digits(equal);
+    text(b" equal,");
+    digits(refused);
+    text(b" refused by both,");
+    digits(listed);
+    text(b" listed differences");
+    if 0 < different {
+        text(b",");
+        digits(different);
+        text(b" DIFFERENT");
+    }
+    text(b"\n");
+}
+
+// ---- comparing
+
+fn differing_word(a: &[u64; 32], b: &[u64; 32]) -> usize {
+    let mut i: usize = 0;
+    while i < 32 {
+        if a[i] != b[i] {
+            return i;
+        }
+        i += 1;
+    }
+    32
+}
+
+fn differing_byte(a: &[u8; 32], b: &[u8; 32]) -> usize {
+    let mut i: usize = 0;
+    while i < 32 {
+        if a[i] != b[i] {
+            return i;
+        }
+        i += 1;
+    }
+    32
+}
+
+// A refused read's status has the bit of the field too.
+fn refusal(call: u64, status: u64) -> u64 {
+    if call < 16 {
+        return status % 256;
+    }
+    if call < 32 {
+        return status;
+    }
+    if call < 34 {
+        return status % 256;
+    }
+    status
+}
+
+// Whether a status is what the class asks for: done, refused by any number, or refused by the number of the listed difference.
+fn agrees(class: u64, number: u64) -> bool {
+    if 14 < number {
+        return false;
+    }
+    match class {
+        0 => number == 0,
+        1 => 0 < number,
+        _ => 16 + number == class,
+    }
+}
+
+fn case(n: u64, call: u64) {
+    text(b"case");
+    digits(n);
+    text(b", ");
+    name(call);
+    text(b":");
+}
+
+fn told(what: &[u8], at: u64, ours: u64, theirs: u64) {
+    text(what);
+    digits(at);
+    text(b" is");
+    digits(ours);
+    text(b", recorded");
+    digits(theirs);
+    text(b"\n");
+}
+
+fn same(
+    n: u64,
+    call: u64,
+    out: &[u64; 32],
+    want: &[u64; 32],
+    bytes: &[u8; 32],
+    left: &[u8; 32],
+) -> bool {
+    let i = differing_word(out, want);
+    if i < 32 {
+        case(n, call);
+        told(b" word", i as u64, out[i], want[i]);
+        return false;
+    }
+    let j = differing_byte(bytes, left);
+    if j < 32 {
+        case(n, call);
+        told(
+            b" byte",
+            j as u64,
+            list::wide(bytes[j]),
+            list::wide(left[j]),
+        );
+        return false;
+    }
+    true
+}
+
+// ---- a record
+
+fn writes(call: u64) -> bool {
+    match call {
+        16..=31 => true,
+        34 => true,
+        _ => false,
+    }
+}
+
+// The words and the bytes that a call has to leave, from the record's answer at a place; the record's end.
+fn expected(s: &[u8], r: Record, at: usize, want: &mut [u64; 32], left: &mut [u8; 32]) -> usize {
+    list::take_bytes(s, r.bytes, r.len, left);
+    if r.class == 0 {
+        let answer = list::take_words(s, at, want);
+        if writes(r.call) {
+            list::take_bytes(s, answer.next, r.len, left);
+            return list::ahead(answer.next, r.len as u64);
+        }
+        return answer.next;
+    }
+    if r.call < 40 {
+        want[0] = r.pos as u64;
+    }
+    at
+}
+
+// One call: whether it answers as recorded.
+fn answers(s: &[u8], r: Record, end: usize, n: u64) -> bool {
+    let mut bytes = [0u8; 32];
+    let mut words = [0u64; 32];
+    let mut out = [list::UNTOUCHED; 32];
+    let mut want = [list::UNTOUCHED; 32];
+    let mut left = [0u8; 32];
+    list::take_bytes(s, r.bytes, r.len, &mut bytes);
+    let w = list::take_words(s, r.numbers, &mut words);
+    expected(s, r, w.next, &mut want, &mut left);
+    let status = calls::call(r, end, &mut bytes, &words, w.count, &mut out);
+    let number = refusal(r.call, status);
+    if !agrees(r.class, number) {
+        case(n, r.call);
+        told(b" status", 0, number, r.class);
+        return false;
+    }
+    same(n, r.call, &out, &want, &bytes, &left)
+}
+
+fn well_formed(s: &[u8], r: Record, last: usize) -> bool {
+    let mut words = [0u64; 32];
+    let mut want = [0u64; 32];
+    let mut left = [0u8; 32];
+    if 32 < r.len {
+        return false;
+    }
+    if 65536 < r.ends {
+        return false;
+    }
+    let w = list::take_words(s, r.numbers, &mut words);
+    last == expected(s, r, w.next, &mut want, &mut left)
+}
+
+// The calls of a record, one for each end that it stands for.
+fn ends(s: &[u8], r: Record, counts: &mut [u64; 193]) {
+    let times = r.ends;
+    let mut i: usize = 0;
+    while i < times {
+        let n = counted(counts, 192);
+        let right = answers(s, r, list::ahead(r.end, i as u64), n);
+        count(counts, r.call, r.class, right);
+        i += 1;
+    }
+}
+
+// The record from first to last, unless it is malformed.
+fn replayed(s: &[u8], first: usize, last: usize, counts: &mut [u64; 193]) -> bool {
+    let r = list::take_record(s, first);
+    if !well_formed(s, r, last) {
+        return false;
+    }
+    ends(s, r, counts);
+    true
+}
+
+// ---- the list
+
+// The records up to the one of length 0, which ends the list: the bytes that are not malformed, all of them in a good list.
+fn replay(s: &[u8], counts: &mut [u64; 193]) -> usize {
+    let mut at: usize = 0;
+    while at < s.len() {
+        let length = list::take(s, at);
+        let first = length.next;
+        let last = list::ahead(first, length.value);
+        if last <= at {
+            return at;
+        }
+        if s.len() < last {
+            return at;
+        }
+        if length.value == 0 {
+            return last;
+        }
+        if !replayed(s, first, last, counts) {
+            return at;
+        }
+        at = last;
+    }
+    0
+}
+
+fn rows(counts: &[u64; 193]) {
+    let mut call: u64 = 0;
+    while call < 48 {
+        row(counts, call);
+        call += 1;
+    }
+}
+
+fn main() {
+    let mut counts = [0u64; 193];
+    let mut room = [0u8; 327680];
+    let n = io::read_full(STDIN_FILENO, &mut room);
+    let good = replay(&room[..n], &mut counts);
+    rows(&counts);
+    if good != n {
+        text(b"malformed at byte");
+        digits(good as u64);
+        text(b"\n");
+    }
+    io::print_decimal(STDOUT_FILENO, counted(&counts, 192));
+    text(b" cases,");
+    digits(different(&counts));
+    text(b" differences\n");
+}
