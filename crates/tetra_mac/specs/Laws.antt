@@ -14,3 +14,4 @@ pub mod Address
 pub mod AccessAssign
 pub mod MacAccess
 pub mod MacData
+pub mod MacResource

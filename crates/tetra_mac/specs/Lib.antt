@@ -5,5 +5,6 @@ pub mod ChannelAllocation
 pub mod Address
 pub mod MacAccess
 pub mod MacData
+pub mod MacResource
 pub mod AccessAssign
 pub mod Laws

@@ -18,10 +18,9 @@ use Rattle.tetra_fields.specs.declared.fields.channel_allocation.ChanAllocEleme
 use Rattle.tetra_fields.specs.declared.fields.channel_allocation.ChannelAllocationAnswer.{ChannelAllocationAnswer}
 use Rattle.tetra_fields.specs.declared.fields.channel_allocation.ChannelAllocationAnswer.the-variants.{Read, Refused}
 use Rattle.tetra_fields.specs.declared.fields.channel_allocation.ChannelAllocationRead.{ChannelAllocationRead}
-use Rattle.tetra_mac.specs.Reply.{valueIf}
 use Rattle.tetra_mac.specs.ChannelAllocation.{frame18Present, frame18Value, channelAllocationWords, channelAllocationKnown, channelAllocationValue, channelAllocationOfWords}
 use Rattle.tetra_mac.specs.Laws.Placed.{Placed, bit-within}
-use Rattle.tetra_mac.specs.Laws.Reply.{long-enough, kept}
+use Rattle.tetra_mac.specs.Laws.Reply.{kept, value-known, long-enough}
 
 -- the numbers of a channel allocation are of the types of their fields
 pub record ChannelAllocationTyped (e : ChanAllocElement) : Type 0 where
@@ -34,24 +33,31 @@ unfolding frame18Value
 frame18-kept Without h = refl
 frame18-kept (Pattern v) h = rw (kept v 255 h)
 
-pub channel-allocation-of-words : (e : ChanAllocElement) → ChannelAllocationTyped e → channelAllocationOfWords (channelAllocationWords e) ≡ some e
-unfolding valueIf channelAllocationKnown channelAllocationValue
-channel-allocation-of-words e t =
+pub channel-allocation-kept : (e : ChanAllocElement) → ChannelAllocationTyped e
+    → (channelAllocationKnown (channelAllocationWords e) ≡ true) × (channelAllocationValue (channelAllocationWords e) ≡ e)
+unfolding channelAllocationKnown channelAllocationValue
+channel-allocation-kept e t =
     let a = alloc-type-back (e .«alloc_type») in
-    let d = ul-dl-back (e .«ul_dl_assigned») in
-    rw (
-      le-leb (allocTypeNumber (e .«alloc_type»)) 3 (omega (arith, a .0)),
-      le-leb (timeslotsNumber (e .«ts_assigned»)) 15 (omega (arith, timeslots-lt (e .«ts_assigned»))),
-      le-leb (ulDlNumber (e .«ul_dl_assigned»)) 3 (omega (arith, d .0)),
-      a .1,
-      timeslots-back (e .«ts_assigned»),
-      d .1,
-      flag-back (e .«clch_permission»),
-      flag-back (e .«cell_change_flag»),
-      kept (e .«carrier_num») 65535 (t .carrier),
-      kept (e .«mon_pattern») 255 (t .pattern),
-      frame18-kept (e .«frame18_mon_pattern») (t .frame18),
+    let d = ul-dl-back (e .«ul_dl_assigned») in (
+      rw (
+        le-leb (allocTypeNumber (e .«alloc_type»)) 3 (omega (arith, a .0)),
+        le-leb (timeslotsNumber (e .«ts_assigned»)) 15 (omega (arith, timeslots-lt (e .«ts_assigned»))),
+        le-leb (ulDlNumber (e .«ul_dl_assigned»)) 3 (omega (arith, d .0)),
+      ),
+      rw (
+        a .1,
+        timeslots-back (e .«ts_assigned»),
+        d .1,
+        flag-back (e .«clch_permission»),
+        flag-back (e .«cell_change_flag»),
+        kept (e .«carrier_num») 65535 (t .carrier),
+        kept (e .«mon_pattern») 255 (t .pattern),
+        frame18-kept (e .«frame18_mon_pattern») (t .frame18),
+      ),
     )
+
+pub channel-allocation-of-words : (e : ChanAllocElement) → ChannelAllocationTyped e → channelAllocationOfWords (channelAllocationWords e) ≡ some e
+channel-allocation-of-words e t = value-known (channel-allocation-kept e t)
 
 pub channel-allocation-long : (ws : List ℕ) → channelAllocationKnown ws ≡ true → 9 ≤ length ws
 unfolding channelAllocationKnown

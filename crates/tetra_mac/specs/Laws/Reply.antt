@@ -1,12 +1,11 @@
 -- The ends of a call.
-use Prim.Native.Nat.{ℕ, min, _+_, _-_, _≤_, _<_}
+use Prim.Native.Nat.{ℕ, min, _≤_, _<_}
 use mathlib.Core.Path.{_≡_, refl, sym, ap, _∙_}
 use mathlib.Core.List.{List}
 use mathlib.Core.Bool.{Bool, true, false, not, _&&_}
 use mathlib.Core.Option.{Option, none, some}
 use native.Mathlib.Omega.{arith}
-use lib.ListN.{length, take, drop, length-drop}
-use lib.Seq.{take-all}
+use lib.ListN.{length}
 use lib.Dec.{leb}
 use borrow.Author.Tests.{leb-true, le-leb, lt-leb, not-true, not-false}
 use Rattle.tetra_core.specs.Laws.Windows.{and-both}
@@ -17,9 +16,10 @@ use Rattle.tetra_mac.specs.Reply.{Reply, malformed, replied, wrote, with
 pub kept : (n m : ℕ) → n ≤ m → min n m ≡ n
 kept n m h = omega arith
 
--- a part of words that runs to their end
-pub rest : (ws : List ℕ) (k : ℕ) → take (length ws - k) (drop k ws) ≡ drop k ws
-rest ws k = take-all (length ws - k) (drop k ws) (omega (arith, length-drop k ws))
+-- a value whose words are known
+pub value-known : {A : Type 0} {known : Bool} {v x : A} → (known ≡ true) × (v ≡ x) → valueIf known v ≡ some x
+unfolding valueIf
+value-known h = rw (h .0, h .1)
 
 -- a record that is known is long enough
 pub long-enough : (n : ℕ) (ws : List ℕ) (codes : Bool) → leb n (length ws) && codes ≡ true → n ≤ length ws

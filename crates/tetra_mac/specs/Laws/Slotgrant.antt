@@ -17,10 +17,9 @@ use Rattle.tetra_fields.specs.declared.fields.basic_slotgrant.BasicSlotgrant.{B
 use Rattle.tetra_fields.specs.declared.fields.basic_slotgrant.SlotgrantAnswer.{SlotgrantAnswer}
 use Rattle.tetra_fields.specs.declared.fields.basic_slotgrant.SlotgrantAnswer.the-variants.{Read, Refused}
 use Rattle.tetra_fields.specs.declared.fields.basic_slotgrant.SlotgrantRead.{SlotgrantRead}
-use Rattle.tetra_mac.specs.Reply.{valueIf}
 use Rattle.tetra_mac.specs.Slotgrant.{delayKind, delayCount, delayValue, slotgrantWords, slotgrantKnown, slotgrantValue, slotgrantOfWords}
 use Rattle.tetra_mac.specs.Laws.Placed.{bit-within}
-use Rattle.tetra_mac.specs.Laws.Reply.{kept, long-enough}
+use Rattle.tetra_mac.specs.Laws.Reply.{kept, value-known, long-enough}
 
 -- a count of type u8 is kept
 delay-kept : (d : BasicSlotgrantGrantingDelay) → delayCount d ≤ 255 → (delayKind d ≤ 3) × (delayValue (delayKind d) (min (delayCount d) 255) ≡ d)
@@ -30,12 +29,16 @@ delay-kept (DelayNOpportunities n) h = (omega arith, rw (kept n 255 h))
 delay-kept AllocStartsAtOpportunityInFr18 h = (omega arith, refl)
 delay-kept WaitForAnotherSlotgrantMessage h = (omega arith, refl)
 
-pub slotgrant-of-words : (g : BasicSlotgrant) → delayCount (g .«granting_delay») ≤ 255 → slotgrantOfWords (slotgrantWords g) ≡ some g
-unfolding valueIf slotgrantKnown slotgrantValue
-slotgrant-of-words g h =
+pub slotgrant-kept : (g : BasicSlotgrant) → delayCount (g .«granting_delay») ≤ 255
+    → (slotgrantKnown (slotgrantWords g) ≡ true) × (slotgrantValue (slotgrantWords g) ≡ g)
+unfolding slotgrantKnown slotgrantValue
+slotgrant-kept g h =
     let k = delay-kept (g .«granting_delay») h in
     let b = cap-alloc-back (g .«capacity_allocation») in
-    rw (le-leb (capAllocNumber (g .«capacity_allocation»)) 15 (omega (arith, b .0)), le-leb (delayKind (g .«granting_delay»)) 3 (k .0), b .1, k .1)
+    (rw (le-leb (capAllocNumber (g .«capacity_allocation»)) 15 (omega (arith, b .0)), le-leb (delayKind (g .«granting_delay»)) 3 (k .0)), rw (b .1, k .1))
+
+pub slotgrant-of-words : (g : BasicSlotgrant) → delayCount (g .«granting_delay») ≤ 255 → slotgrantOfWords (slotgrantWords g) ≡ some g
+slotgrant-of-words g h = value-known (slotgrant-kept g h)
 
 pub slotgrant-long : (ws : List ℕ) → slotgrantKnown ws ≡ true → 3 ≤ length ws
 unfolding slotgrantKnown

@@ -1,0 +1,48 @@
+use mathlib.Core.Path.{sym, _∙_}
+use borrow.Author.Tests.{not-false}
+use Rattle.tetra_mac.specs.Laws.Reply.{count-no-room, count-unknown, count-replied}
+use Rattle.tetra_mac.specs.Laws.MacResource.{mac-resource-long}
+use borrow.Author.Needs.{needs}
+use Rattle.tetra_mac.proofs.resource.tetra_mac_resource_header_len.Statement.{statement}
+use Rattle.tetra_mac.proofs.resource.tetra_mac_resource_header_len.Tie as tie
+
+returns : tie.Need-returns
+returns c = count-no-room _ _ _ _ (c .if1 .taken)
+
+returns-2 : tie.Need-returns-2
+returns-2 c = count-unknown _ _ _ _ (c .before .mac-resource-known .ensures) (c .if2 .taken)
+
+mac-resource-value-requires : tie.Need-mac-resource-value-requires
+mac-resource-value-requires c κs = mac-resource-long _ (sym (c .before .mac-resource-known .ensures) ∙ not-false _ (c .if2 .left))
+
+returns-3 : tie.Need-returns-3
+returns-3 c =
+    let n = c .before .before in
+    let l = n .before .before in
+    let k = l .before .before .before in
+    count-replied _ _ _ _ (k .mac-resource-known .ensures) (l .before .before .if2 .left) (k .before .if1 .left) (l .before .mac-resource-value .ensures) (rw (← l .compute-header-len .ensures, n .n .given .1))
+
+returns-4 : tie.Need-returns-4
+returns-4 c =
+    let n = c .before in
+    let l = n .before .before in
+    let k = l .before .before .before in
+    count-replied _ _ _ _ (k .mac-resource-known .ensures) (l .before .before .if2 .left) (k .before .if1 .left) (l .before .mac-resource-value .ensures) (rw (← l .compute-header-len .ensures, n .number .given .1))
+
+pub tetra-mac-resource-header-len-spec : {M : Type 1} → statement M
+tetra-mac-resource-header-len-spec =
+    tie.close
+    (tie.spec
+    returns
+    (λ c κs. search needs)
+    returns-2
+    mac-resource-value-requires
+    (λ c κs. search needs)
+    (λ c. search needs)
+    (λ c. search needs)
+    (λ c. search needs)
+    (λ c. search needs)
+    (λ c. search needs)
+    (λ c. search needs)
+    returns-3
+    returns-4)
