@@ -5,17 +5,21 @@ use tetra_mac::assign;
 use tetra_mac::bits;
 use tetra_mac::channel_allocation;
 use tetra_mac::data;
-use tetra_mac::record;
+use tetra_mac::resource;
 use tetra_mac::slotgrant;
+
+// The status of a call that there is none of.
+const MALFORMED: u64 = 255;
 
 fn read(kind: u64, s: &[u8], start: usize, pos: usize, end: usize, out: &mut [u64; 32]) -> u64 {
     match kind {
         0 => slotgrant::tetra_slotgrant_read(s, start, pos, end, out),
         1 => channel_allocation::tetra_channel_allocation_read(s, start, pos, end, out),
+        2 => resource::tetra_mac_resource_read(s, start, pos, end, out),
         3 => assign::tetra_access_assign_read(s, start, pos, end, out),
         4 => access::tetra_mac_access_read(s, start, pos, end, out),
         5 => data::tetra_mac_data_read(s, start, pos, end, out),
-        _ => record::MALFORMED,
+        _ => MALFORMED,
     }
 }
 
@@ -31,10 +35,11 @@ fn write(
     match kind {
         0 => slotgrant::tetra_slotgrant_write(s, start, pos, end, words, out),
         1 => channel_allocation::tetra_channel_allocation_write(s, start, pos, end, words, out),
+        2 => resource::tetra_mac_resource_write(s, start, pos, end, words, out),
         3 => assign::tetra_access_assign_write(s, start, pos, end, words, out),
         4 => access::tetra_mac_access_write(s, start, pos, end, words, out),
         5 => data::tetra_mac_data_write(s, start, pos, end, words, out),
-        _ => record::MALFORMED,
+        _ => MALFORMED,
     }
 }
 
@@ -64,19 +69,22 @@ fn bit(
         32 => bits::tetra_read_bits(s, start, pos, end, a as usize, out),
         33 => bits::tetra_peek_bits(s, start, pos, end, offset(a), b as usize, out),
         34 => bits::tetra_write_bits(s, start, pos, end, a, b as usize, out),
-        _ => record::MALFORMED,
-    }
-}
-
-fn length(call: u64, words: &[u64], out: &mut [u64; 32]) -> u64 {
-    match call {
-        40 => channel_allocation::tetra_channel_allocation_len(words, out),
-        _ => record::MALFORMED,
+        _ => MALFORMED,
     }
 }
 
 fn word(words: &[u64], i: usize) -> u64 {
     if i < words.len() { words[i] } else { 0 }
+}
+
+// The bits of content stand behind the record that they are counted with.
+fn length(call: u64, words: &[u64], out: &mut [u64; 32]) -> u64 {
+    match call {
+        40 => channel_allocation::tetra_channel_allocation_len(words, out),
+        41 => resource::tetra_mac_resource_header_len(words, out),
+        42 => resource::tetra_mac_resource_update_len(words, word(words, 25) as usize, out),
+        _ => MALFORMED,
+    }
 }
 
 // The call on the record's bytes and numbers, which stand at the start of s and words.
@@ -90,10 +98,10 @@ fn cut(
 ) -> u64 {
     let n = r.len;
     if s.len() < n {
-        return record::MALFORMED;
+        return MALFORMED;
     }
     if words.len() < count {
-        return record::MALFORMED;
+        return MALFORMED;
     }
     if r.call < 16 {
         return read(r.call, &s[..n], r.start, r.pos, end, out);

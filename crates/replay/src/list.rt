@@ -75,7 +75,7 @@ pub fn take(s: &[u8], at: usize) -> Number {
     }
 }
 
-// A count and that many numbers, WORDS at most.
+// A count and that many numbers, 32 at most.
 pub fn take_words(s: &[u8], at: usize, into: &mut [u64; 32]) -> Words {
     let c = take(s, at);
     let count = c.value;
@@ -93,7 +93,7 @@ pub fn take_words(s: &[u8], at: usize, into: &mut [u64; 32]) -> Words {
     Words { count: 32, next }
 }
 
-// n bytes, BYTES at most.
+// n bytes, 32 at most.
 pub fn take_bytes(s: &[u8], at: usize, n: usize, into: &mut [u8; 32]) {
     let mut i: usize = 0;
     while i < 32 {

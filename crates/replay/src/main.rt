@@ -6,7 +6,6 @@ mod list;
 use libc::STDIN_FILENO;
 use libc::STDOUT_FILENO;
 use list::Record;
-use list::Words;
 
 // ---- printing
 
@@ -195,14 +194,21 @@ fn case(n: u64, call: u64) {
     text(b":");
 }
 
-fn told(what: &[u8], at: u64, ours: u64, theirs: u64) {
-    text(what);
-    digits(at);
+fn told(ours: u64, theirs: u64) {
     text(b" is");
     digits(ours);
     text(b", recorded");
     digits(theirs);
     text(b"\n");
+}
+
+fn recorded(class: u64) {
+    text(b", recorded as");
+    match class {
+        0 => text(b" completed\n"),
+        1 => text(b" refused\n"),
+        _ => text(b" a listed difference\n"),
+    }
 }
 
 fn same(
@@ -216,18 +222,17 @@ fn same(
     let i = differing_word(out, want);
     if i < 32 {
         case(n, call);
-        told(b" word", i as u64, out[i], want[i]);
+        text(b" word");
+        digits(i as u64);
+        told(out[i], want[i]);
         return false;
     }
     let j = differing_byte(bytes, left);
     if j < 32 {
         case(n, call);
-        told(
-            b" byte",
-            j as u64,
-            list::wide(bytes[j]),
-            list::wide(left[j]),
-        );
+        text(b" byte");
+        digits(j as u64);
+        told(list::wide(bytes[j]), list::wide(left[j]));
         return false;
     }
     true
@@ -274,16 +279,44 @@ fn answers(s: &[u8], r: Record, end: usize, n: u64) -> bool {
     let number = refusal(r.call, status);
     if !agrees(r.class, number) {
         case(n, r.call);
-        told(b" status", 0, number, r.class);
+        text(b" status");
+        digits(number);
+        recorded(r.class);
         return false;
     }
     same(n, r.call, &out, &want, &bytes, &left)
 }
 
+fn call_known(call: u64) -> bool {
+    match call {
+        0..=5 => true,
+        16..=21 => true,
+        32..=34 => true,
+        40..=42 => true,
+        _ => false,
+    }
+}
+
+// Refusals are numbered 1 to 14.
+fn class_known(class: u64) -> bool {
+    match class {
+        0..=1 => true,
+        17..=30 => true,
+        _ => false,
+    }
+}
+
+// Whether a record has a call and a class that there is, fits, and ends where its length says.
 fn well_formed(s: &[u8], r: Record, last: usize) -> bool {
     let mut words = [0u64; 32];
     let mut want = [0u64; 32];
     let mut left = [0u8; 32];
+    if !call_known(r.call) {
+        return false;
+    }
+    if !class_known(r.class) {
+        return false;
+    }
     if 32 < r.len {
         return false;
     }
@@ -318,28 +351,37 @@ fn replayed(s: &[u8], first: usize, last: usize, counts: &mut [u64; 193]) -> boo
 
 // ---- the list
 
-// The records up to the one of length 0, which ends the list: the bytes that are not malformed, all of them in a good list.
-fn replay(s: &[u8], counts: &mut [u64; 193]) -> usize {
+// Whether the list was well-formed to its end, and the byte that it was taken to.
+struct Ended {
+    whole: bool,
+    at: usize,
+}
+
+// Replays the records up to that of length 0, which has to be the list's last byte.
+fn replay(s: &[u8], counts: &mut [u64; 193]) -> Ended {
     let mut at: usize = 0;
     while at < s.len() {
         let length = list::take(s, at);
         let first = length.next;
         let last = list::ahead(first, length.value);
         if last <= at {
-            return at;
+            return Ended { whole: false, at };
         }
         if s.len() < last {
-            return at;
+            return Ended { whole: false, at };
         }
         if length.value == 0 {
-            return last;
+            return Ended {
+                whole: last == s.len(),
+                at: last,
+            };
         }
         if !replayed(s, first, last, counts) {
-            return at;
+            return Ended { whole: false, at };
         }
         at = last;
     }
-    0
+    Ended { whole: false, at }
 }
 
 fn rows(counts: &[u64; 193]) {
@@ -354,11 +396,11 @@ fn main() {
     let mut counts = [0u64; 193];
     let mut room = [0u8; 327680];
     let n = io::read_full(STDIN_FILENO, &mut room);
-    let good = replay(&room[..n], &mut counts);
+    let ended = replay(&room[..n], &mut counts);
     rows(&counts);
-    if good != n {
-        text(b"malformed at byte");
-        digits(good as u64);
+    if !ended.whole {
+        text(b"MALFORMED list, at byte");
+        digits(ended.at as u64);
         text(b"\n");
     }
     io::print_decimal(STDOUT_FILENO, counted(&counts, 192));

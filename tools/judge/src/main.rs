@@ -1,10 +1,10 @@
-//! The original as judge: a live comparison, a benchmark and the recorded answers, over the C interface of this port.
+//! The original as judge: a live comparison and a benchmark, over the C interface of this port.
 mod bench;
 mod cases;
 mod compare;
+mod kind;
 mod original;
 mod ours;
-mod record;
 
 fn number(words: &[String], at: usize, otherwise: u64) -> u64 {
     words.get(at).map_or(otherwise, |v| v.parse().expect("a number"))
@@ -17,9 +17,8 @@ fn main() {
     let done = match words.first().map(String::as_str) {
         Some("compare") => compare::run(number(&words, 1, 10_000_000), number(&words, 2, 1)),
         Some("bench") => bench::run(),
-        Some("record") => record::run(words.get(1).map_or("cases", String::as_str)),
         _ => {
-            eprintln!("judge compare [CASES [SEED]] | bench | record FILE");
+            eprintln!("judge compare [CASES [SEED]] | bench");
             false
         }
     };

@@ -1,4 +1,5 @@
 //! This port, through its C interface. bindings/c/tetra_mac.h describes every function and record.
+pub use crate::kind::{KINDS, Kind};
 
 /// A window of bits over bytes.
 #[derive(Clone, Copy, Debug, PartialEq, Eq)]
@@ -7,18 +8,6 @@ pub struct Window {
     pub pos: usize,
     pub end: usize,
 }
-
-#[derive(Clone, Copy, Debug, PartialEq, Eq)]
-pub enum Kind {
-    Slotgrant,
-    Channel,
-    Resource,
-    Assign,
-    Access,
-    Data,
-}
-
-pub const KINDS: [Kind; 6] = [Kind::Slotgrant, Kind::Channel, Kind::Resource, Kind::Assign, Kind::Access, Kind::Data];
 
 impl Kind {
     /// The words of its record.
