@@ -6,9 +6,6 @@ pub const BYTES: usize = 32;
 
 const FAR: usize = 1099511627776;
 
-// What a call left where it wrote nothing.
-pub const UNTOUCHED: u64 = 6148914691236517205;
-
 pub struct Number {
     pub value: u64,
     pub next: usize,
@@ -31,6 +28,16 @@ pub struct Record {
     pub end: usize,
     pub ends: usize,
     pub numbers: usize,
+}
+
+// Bytes before any is taken.
+pub fn no_bytes() -> [u8; 32] {
+    [0u8; 32]
+}
+
+// Words that no call wrote.
+pub fn untouched() -> [u64; 32] {
+    [6148914691236517205; 32]
 }
 
 pub fn wide(x: u8) -> u64 {

@@ -267,11 +267,11 @@ fn expected(s: &[u8], r: Record, at: usize, want: &mut [u64; 32], left: &mut [u8
 
 // One call: whether it answers as recorded.
 fn answers(s: &[u8], r: Record, end: usize, n: u64) -> bool {
-    let mut bytes = [0u8; 32];
-    let mut words = [0u64; 32];
-    let mut out = [list::UNTOUCHED; 32];
-    let mut want = [list::UNTOUCHED; 32];
-    let mut left = [0u8; 32];
+    let mut bytes = list::no_bytes();
+    let mut words = list::untouched();
+    let mut out = list::untouched();
+    let mut want = list::untouched();
+    let mut left = list::no_bytes();
     list::take_bytes(s, r.bytes, r.len, &mut bytes);
     let w = list::take_words(s, r.numbers, &mut words);
     expected(s, r, w.next, &mut want, &mut left);
@@ -308,9 +308,9 @@ fn class_known(class: u64) -> bool {
 
 // Whether a record has a call and a class that there is, fits, and ends where its length says.
 fn well_formed(s: &[u8], r: Record, last: usize) -> bool {
-    let mut words = [0u64; 32];
-    let mut want = [0u64; 32];
-    let mut left = [0u8; 32];
+    let mut words = list::untouched();
+    let mut want = list::untouched();
+    let mut left = list::no_bytes();
     if !call_known(r.call) {
         return false;
     }
