@@ -1,5 +1,5 @@
--- Laws of the interface. Of each record: its words are known and give the value back (..-of-words), a record that is known is long enough
--- (..-long), and the bit of a refused read fits a status (..-bit).
+-- Laws of the interface. Of each record: its words are known and give the value back (..-of-words; ..-kept of a part), a record that is known is
+-- long enough (..-long), and the bit of a refused read fits a status (..-bit).
 --
 -- Placed   bit-within      a refused field begins inside the window
 -- Reply    read-..         the returns of a call that reads

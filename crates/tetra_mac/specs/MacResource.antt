@@ -1,6 +1,6 @@
--- The MAC-RESOURCE as a record of 25 words: "0 fill bits; 1 position of grant; 2 encryption; 3 random access; 4 length; 5 address type 0..7; 6 SSI
--- kind; 7 first number; 8 second number; 9 power present; 10 power; 11 grant present; 12 to 14 slot grant; 15 channel allocation present; 16 to
--- 24 channel allocation". "What a case does not have is read as 0 and not looked at when written."
+-- The MAC-RESOURCE as a record of 25 words: 0 fill bits, 1 position of grant, 2 encryption, 3 random access, 4 length; 5 address type 0..7, 6 SSI
+-- kind, 7 first number, 8 second number; 9 power control present, 10 power control; 11 slot grant present, 12 to 14 slot grant; 15 channel
+-- allocation present, 16 to 24 channel allocation. "What a case does not have is read as 0 and not looked at when written."
 use Prim.Native.Nat.{ℕ, min}
 use mathlib.Core.List.{List, [], _∷_, _++_}
 use mathlib.Core.Bool.{Bool, true, cond, _&&_}
@@ -50,6 +50,10 @@ powerLevel (PowerControl.Level v) = v
 abbrev pub powerWords : PowerControl → List ℕ
 powerWords p = powerPresent p ∷ powerLevel p ∷ []
 
+-- the words 0 to 10
+abbrev pub frontWords : MacResource → List ℕ
+frontWords h = fixedWords h ++ (addressWords (h .addr) ++ powerWords (h .«power_control_element»))
+
 abbrev pub grantingWords : SlotGranting → List ℕ
 grantingWords SlotGranting.Without = 0 ∷ 0 ∷ 0 ∷ 0 ∷ []
 grantingWords (SlotGranting.Element g) = 1 ∷ slotgrantWords g
@@ -59,10 +63,7 @@ allocationWords ChannelAllocation.Without = 0 ∷ 0 ∷ 0 ∷ 0 ∷ 0 ∷ 0 ∷ 
 allocationWords (ChannelAllocation.Element e) = 1 ∷ channelAllocationWords e
 
 abbrev pub macResourceWords : MacResource → List ℕ
-macResourceWords h =
-    fixedWords h
-    ++ (addressWords (h .addr)
-    ++ (powerWords (h .«power_control_element») ++ (grantingWords (h .«slot_granting_element») ++ allocationWords (h .«chan_alloc_element»))))
+macResourceWords h = frontWords h ++ (grantingWords (h .«slot_granting_element») ++ allocationWords (h .«chan_alloc_element»))
 
 -- ---- the MAC-RESOURCE of words
 
@@ -126,7 +127,7 @@ lenReply out (HeaderLen.Refused j) = replied j out
 abbrev pub headerLenReply : List ℕ → List ℕ → Reply
 headerLenReply ws out = recordReply (λ h. lenReply out (computeHeaderLen h)) 1 (macResourceOfWords ws) out
 
--- "length, fill flag, fill bits"
+-- the length, the fill flag and the fill bits
 abbrev pub lenAndFillReply : List ℕ → LenAndFill → Reply
 lenAndFillReply out (LenAndFill.Counted octets fill filled) = countedReply out (octets .0 ∷ digit filled ∷ fill .0 ∷ [])
 lenAndFillReply out (LenAndFill.Refused j) = replied j out

@@ -71,7 +71,7 @@ fn option_known(option: u64, reservation: u64) -> bool
 }
 
 // The words of a MAC-ACCESS.
-pub fn mac_access_words(h: MacAccess) -> [u64; 8]
+pub(crate) fn mac_access_words(h: MacAccess) -> [u64; 8]
     ensures { λ r. ⌜ r ≡ macAccessWords h ⌝ }
 {
     let a = h.addr;
@@ -89,7 +89,7 @@ pub fn mac_access_words(h: MacAccess) -> [u64; 8]
 }
 
 // Whether words are long enough for a MAC-ACCESS and have no unknown code.
-pub fn mac_access_known(words: &[u64]) -> bool
+pub(crate) fn mac_access_known(words: &[u64]) -> bool
     ensures { λ r. ⌜ r ≡ macAccessKnown (now (words .entry)) ⌝ }
 {
     if words.len() < 8 {
@@ -102,7 +102,7 @@ pub fn mac_access_known(words: &[u64]) -> bool
 }
 
 // The MAC-ACCESS of words whose codes are known.
-pub fn mac_access_value(words: &[u64]) -> MacAccess
+pub(crate) fn mac_access_value(words: &[u64]) -> MacAccess
     requires { ⌜ 8 ≤ length (now words) ⌝ }
     ensures { λ r. ⌜ r ≡ macAccessValue (now (words .entry)) ⌝ }
 {

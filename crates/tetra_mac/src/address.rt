@@ -27,7 +27,7 @@ fn ssi_of_kind(kind: u64) -> SsiType
 }
 
 // The SSI kind of an uplink address, 0 where it has none.
-pub fn uplink_kind(a: UplinkAddress) -> u64
+pub(crate) fn uplink_kind(a: UplinkAddress) -> u64
     ensures { λ r. ⌜ r ≡ uplinkKind a ⌝ }
 {
     match a {
@@ -39,7 +39,7 @@ pub fn uplink_kind(a: UplinkAddress) -> u64
 }
 
 // Whether there is such an address type and, where it has one, such an SSI kind.
-pub fn uplink_known(addr_type: u64, kind: u64) -> bool
+pub(crate) fn uplink_known(addr_type: u64, kind: u64) -> bool
     ensures { λ r. ⌜ r ≡ uplinkKnown «addr_type» kind ⌝ }
 {
     match addr_type {
@@ -52,7 +52,7 @@ pub fn uplink_known(addr_type: u64, kind: u64) -> bool
 }
 
 // The uplink address of a type.
-pub fn uplink_value(addr_type: u64, kind: u64, number: u64) -> UplinkAddress
+pub(crate) fn uplink_value(addr_type: u64, kind: u64, number: u64) -> UplinkAddress
     ensures { λ r. ⌜ r ≡ uplinkValue «addr_type» kind number ⌝ }
 {
     match addr_type {
@@ -64,7 +64,7 @@ pub fn uplink_value(addr_type: u64, kind: u64, number: u64) -> UplinkAddress
 }
 
 // The SSI kind of an address, 0 where it has none.
-pub fn address_kind(a: TetraAddress) -> u64
+pub(crate) fn address_kind(a: TetraAddress) -> u64
     ensures { λ r. ⌜ r ≡ addressKind a ⌝ }
 {
     match a {
@@ -80,7 +80,7 @@ pub fn address_kind(a: TetraAddress) -> u64
 }
 
 // The SSI, USSI or SMI of an address, or a label that stands alone.
-pub fn address_first(a: TetraAddress) -> u64
+pub(crate) fn address_first(a: TetraAddress) -> u64
     ensures { λ r. ⌜ r ≡ addressFirst a ⌝ }
 {
     match a {
@@ -96,7 +96,7 @@ pub fn address_first(a: TetraAddress) -> u64
 }
 
 // The label or marker beside an SSI or SMI, 0 where there is none.
-pub fn address_second(a: TetraAddress) -> u64
+pub(crate) fn address_second(a: TetraAddress) -> u64
     ensures { λ r. ⌜ r ≡ addressSecond a ⌝ }
 {
     match a {
@@ -112,7 +112,7 @@ pub fn address_second(a: TetraAddress) -> u64
 }
 
 // Whether there is such an address type and, where it has one, such an SSI kind.
-pub fn address_known(addr_type: u64, kind: u64) -> bool
+pub(crate) fn address_known(addr_type: u64, kind: u64) -> bool
     ensures { λ r. ⌜ r ≡ addressKnown «addr_type» kind ⌝ }
 {
     match addr_type {
@@ -129,7 +129,7 @@ pub fn address_known(addr_type: u64, kind: u64) -> bool
 }
 
 // The address of a type.
-pub fn address_value(addr_type: u64, kind: u64, a: u64, b: u64) -> TetraAddress
+pub(crate) fn address_value(addr_type: u64, kind: u64, a: u64, b: u64) -> TetraAddress
     ensures { λ r. ⌜ r ≡ addressValue «addr_type» kind a b ⌝ }
 {
     let ssi = ssi_of_kind(kind);

@@ -8,8 +8,6 @@ use mac_data::mac_data::MacDataAnswer;
 use mac_data::mac_data::MacDataOption;
 use tetra_core::bitbuffer::Cursor;
 ghost use mathlib.Core.Path.{_≡_};
-ghost use Prim.Native.Nat.{_≤_};
-ghost use lib.ListN.{length};
 ghost use Rattle.tetra_mac.specs.Reply.{replied, wrote, window};
 ghost use Rattle.tetra_mac.specs.MacData.{accessOption, dataOption, asAccess, asData, macDataKnown, macDataReadReply, macDataWriteReply};
 

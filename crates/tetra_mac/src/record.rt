@@ -9,10 +9,10 @@ ghost use lib.Seq.{sets};
 ghost use Rattle.tetra_mac.specs.Reply.{replied, givenReply, deniedReply, movedReply};
 
 // The status of a call whose record or out is too short, or whose record has a code that no case has.
-pub const MALFORMED: u64 = 255;
+pub(crate) const MALFORMED: u64 = 255;
 
 // Puts words into out from the index at on.
-pub fn put_words(out: &mut [u64], at: usize, words: &[u64])
+pub(crate) fn put_words(out: &mut [u64], at: usize, words: &[u64])
     requires { ⌜ at + length (now words) ≤ length (now out) ⌝ }
     ensures { λ r. ⌜ now (out .exit) ≡ sets (now (out .entry)) at (now (words .entry)) ⌝ }
 {
@@ -24,7 +24,7 @@ pub fn put_words(out: &mut [u64], at: usize, words: &[u64])
 }
 
 // Puts the cursor's bit and the words that were read into out.
-pub fn give(out: &mut [u64], at: usize, words: &[u64]) -> u64
+pub(crate) fn give(out: &mut [u64], at: usize, words: &[u64]) -> u64
     requires { ⌜ length (now words) < length (now out) ⌝ }
     ensures { λ r. ⌜ replied r (now (out .exit)) ≡ givenReply (now (out .entry)) at (now (words .entry)) ⌝ }
 {
@@ -34,7 +34,7 @@ pub fn give(out: &mut [u64], at: usize, words: &[u64]) -> u64
 }
 
 // Puts the cursor's bit into out: the status of a refused read.
-pub fn deny(out: &mut [u64], at: usize, r: Refusal) -> u64
+pub(crate) fn deny(out: &mut [u64], at: usize, r: Refusal) -> u64
     requires { ⌜ (0 < length (now out)) × (r .bit ≤ 65536) ⌝ }
     ensures { λ n. ⌜ replied n (now (out .exit)) ≡ deniedReply (now (out .entry)) at r ⌝ }
 {
@@ -43,7 +43,7 @@ pub fn deny(out: &mut [u64], at: usize, r: Refusal) -> u64
 }
 
 // Puts the cursor's bit into out: the status of a call that writes.
-pub fn moved(out: &mut [u64], m: Moved) -> u64
+pub(crate) fn moved(out: &mut [u64], m: Moved) -> u64
     requires { ⌜ 0 < length (now out) ⌝ }
     ensures { λ n. ⌜ replied n (now (out .exit)) ≡ movedReply (now (out .entry)) m ⌝ }
 {
@@ -56,21 +56,21 @@ pub fn moved(out: &mut [u64], m: Moved) -> u64
 }
 
 // A number for a field of type u8: one too large becomes the largest, which a codec refuses.
-pub fn number8(v: u64) -> u8
+pub(crate) fn number8(v: u64) -> u8
     ensures { λ r. ⌜ r ≡ min v 255 ⌝ }
 {
     if v < 255 { v as u8 } else { 255 }
 }
 
 // The same for a field of type u16.
-pub fn number16(v: u64) -> u16
+pub(crate) fn number16(v: u64) -> u16
     ensures { λ r. ⌜ r ≡ min v 65535 ⌝ }
 {
     if v < 65535 { v as u16 } else { 65535 }
 }
 
 // The same for a field of type u32.
-pub fn number32(v: u64) -> u32
+pub(crate) fn number32(v: u64) -> u32
     ensures { λ r. ⌜ r ≡ min v 4294967295 ⌝ }
 {
     if v < 4294967295 { v as u32 } else { 4294967295 }

@@ -14,17 +14,20 @@ use mac_resource::mac_resource::MacResource;
 use mac_resource::mac_resource::MacResourceAnswer;
 use tetra_core::address::TetraAddress;
 use tetra_core::bitbuffer::Cursor;
+ghost use mathlib.Core.List.{_∷_};
 ghost use mathlib.Core.Path.{_≡_};
 ghost use Prim.Native.Nat.{_≤_};
 ghost use lib.ListN.{length};
 ghost use lib.Seq.{sets};
-ghost use Rattle.tetra_mac.specs.Reply.{replied, wrote, window, givenReply};
-ghost use Rattle.tetra_mac.specs.MacResource.{fixedWords, addressWords, powerPresent, powerLevel, powerWords, grantingWords, allocationWords, macResourceWords, powerValue, grantingKnown, grantingValue, allocationKnown, allocationValue, macResourceKnown, macResourceValue, macResourceReadReply, macResourceWriteReply, headerLenReply, updateLenReply};
+ghost use Rattle.tetra_mac.specs.Reply.{replied, wrote, window, putFirst, givenReply};
+ghost use Rattle.tetra_mac.specs.MacResource.{fixedWords, addressWords, powerPresent, powerLevel, powerWords, frontWords, grantingWords, allocationWords, macResourceWords, powerValue, grantingKnown, grantingValue, allocationKnown, allocationValue, macResourceKnown, macResourceValue, macResourceReadReply, macResourceWriteReply, headerLenReply, updateLenReply};
 
-fn fixed_words(h: MacResource) -> [u64; 5]
-    ensures { λ r. ⌜ r ≡ fixedWords h ⌝ }
+// The cursor's bit, and the words of the fields before the address.
+fn first_words(at: usize, h: MacResource) -> [u64; 6]
+    ensures { λ r. ⌜ r ≡ at ∷ fixedWords h ⌝ }
 {
     [
+        at as u64,
         codec::bit(h.fill_bits),
         h.pos_of_grant as u64,
         h.encryption_mode as u64,
@@ -68,6 +71,21 @@ fn power_words(p: PowerControl) -> [u64; 2]
     [power_present(p), power_level(p)]
 }
 
+// Puts the cursor's bit and the words 0 to 10 into out, a group at a time, so that no array of them all is built and copied.
+fn put_front(out: &mut [u64], at: usize, h: MacResource)
+    requires { ⌜ 26 ≤ length (now out) ⌝ }
+    ensures { λ r. ⌜ now (out .exit) ≡ putFirst (now (out .entry)) (at ∷ frontWords h) ⌝ }
+{
+    let a = h.addr;
+    let p = h.power_control_element;
+    let first = first_words(at, h);
+    let address = address_words(a);
+    let power = power_words(p);
+    record::put_words(out, 0, &first);
+    record::put_words(out, 6, &address);
+    record::put_words(out, 10, &power);
+}
+
 // Each optional element has its words behind its flag, at a place of its own in out.
 fn put_granting(out: &mut [u64], g: SlotGranting)
     requires { ⌜ 26 ≤ length (now out) ⌝ }
@@ -103,24 +121,16 @@ fn put_allocation(out: &mut [u64], a: ChannelAllocation)
     }
 }
 
-// Puts the cursor's bit and the words of a MAC-RESOURCE into out, a group at a time: 25 words built at once would be copied.
+// Puts the cursor's bit and the words of a MAC-RESOURCE into out.
 fn give_mac_resource(out: &mut [u64], at: usize, h: MacResource) -> u64
     requires { ⌜ 26 ≤ length (now out) ⌝ }
     ensures { λ r. ⌜ replied r (now (out .exit)) ≡ givenReply (now (out .entry)) at (macResourceWords h) ⌝ }
 {
-    let a = h.addr;
-    let p = h.power_control_element;
     let g = h.slot_granting_element;
-    let e = h.chan_alloc_element;
-    let fixed = fixed_words(h);
-    let address = address_words(a);
-    let power = power_words(p);
-    out[0] = at as u64;
-    record::put_words(out, 1, &fixed);
-    record::put_words(out, 6, &address);
-    record::put_words(out, 10, &power);
+    let a = h.chan_alloc_element;
+    put_front(out, at, h);
     put_granting(out, g);
-    put_allocation(out, e);
+    put_allocation(out, a);
     0
 }
 

@@ -1,8 +1,7 @@
 -- The words of an address are known and give it back.
-use Prim.Native.Nat.{ℕ, _≤_}
+use Prim.Native.Nat.{_≤_}
 use mathlib.Core.Path.{_≡_, refl}
 use mathlib.Core.Bool.{true}
-use native.Mathlib.Omega.{arith}
 use lib.Dec.{ltb}
 use Rattle.tetra_core.specs.Address.{addressType, uplinkAddressType}
 use Rattle.tetra_core.specs.declared.address.SsiType.{SsiType}

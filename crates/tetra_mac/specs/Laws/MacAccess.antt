@@ -1,5 +1,5 @@
 -- The MAC-ACCESS's words give it back, and its refusals have a bit that fits a status.
-use Prim.Native.Nat.{ℕ, _+_, _≤_}
+use Prim.Native.Nat.{ℕ, _≤_}
 use mathlib.Core.Path.{_≡_, refl}
 use mathlib.Core.List.{List}
 use mathlib.Core.Bool.{true}
@@ -11,7 +11,7 @@ use Rattle.tetra_core.specs.declared.bitbuffer.Cursor.{Cursor}
 use Rattle.tetra_core.specs.declared.refusal.Refusal.{Refusal}
 use Rattle.codec.specs.Cases.{flag-back}
 use Rattle.tetra_fields.specs.ReservationRequirement.{reservationNumber}
-use Rattle.tetra_fields.specs.UplinkAddress.{uplinkWidth, readUplinkAddress}
+use Rattle.tetra_fields.specs.UplinkAddress.{readUplinkAddress}
 use Rattle.tetra_fields.specs.UplinkHead.{readUplinkBody, readUplinkHead}
 use Rattle.tetra_fields.specs.Laws.ReservationRequirement.{reservation-back}
 use Rattle.mac_access.specs.MacAccess.{readRequest, readChosen, readOption, readMacAccess, macAccessAt}

@@ -1,5 +1,5 @@
 -- The MAC-DATA's words give it back, and its refusals have a bit that fits a status.
-use Prim.Native.Nat.{ℕ, _+_, _≤_}
+use Prim.Native.Nat.{ℕ, _≤_}
 use mathlib.Core.Path.{_≡_, refl}
 use mathlib.Core.List.{List}
 use mathlib.Core.Bool.{true}
@@ -10,7 +10,7 @@ use Rattle.tetra_core.specs.Laws.Windows.{and-both}
 use Rattle.tetra_core.specs.declared.bitbuffer.Cursor.{Cursor}
 use Rattle.tetra_core.specs.declared.refusal.Refusal.{Refusal}
 use Rattle.codec.specs.Cases.{flag, flag-back}
-use Rattle.tetra_fields.specs.UplinkAddress.{uplinkWidth, readUplinkAddress}
+use Rattle.tetra_fields.specs.UplinkAddress.{readUplinkAddress}
 use Rattle.tetra_fields.specs.UplinkHead.{readUplinkBody, readUplinkHead}
 use Rattle.mac_data.specs.MacData.{readRequest, readOption, readMacData, macDataAt}
 use Rattle.mac_data.specs.declared.mac_data.MacDataOption.{MacDataOption}
@@ -21,7 +21,7 @@ use Rattle.mac_data.specs.declared.mac_data.MacDataAnswer.the-variants.{Read, R
 use Rattle.mac_data.specs.declared.mac_data.MacDataRead.{MacDataRead}
 use Rattle.tetra_mac.specs.Reply.{valueIf, word}
 use Rattle.tetra_mac.specs.MacAccess.{optionKind, macAccessKnown, macAccessValue}
-use Rattle.tetra_mac.specs.MacData.{accessOption, dataOption, asAccess, macDataWords, macDataKnown, macDataOfWords}
+use Rattle.tetra_mac.specs.MacData.{accessOption, dataOption, macDataWords, macDataKnown, macDataOfWords}
 use Rattle.tetra_mac.specs.Laws.Address.{UplinkTyped, uplink-kept}
 use Rattle.tetra_mac.specs.Laws.MacAccess.{OptionTyped, option-kept, mac-access-long}
 use Rattle.tetra_mac.specs.Laws.Placed.{bit-within}

@@ -1,24 +1,16 @@
 use mathlib.Core.Path.{sym, _∙_}
+use borrow.Author.Needs.{needs}
 use borrow.Author.Tests.{le-leb, lt-leb, not-true, not-false}
 use Rattle.tetra_mac.specs.MacResource.{macResourceKnown}
-use borrow.Author.Needs.{needs}
 use Rattle.tetra_mac.proofs.resource.mac_resource_known.Statement.{statement}
 use Rattle.tetra_mac.proofs.resource.mac_resource_known.Tie as tie
-
-returns : tie.Need-returns
-unfolding macResourceKnown
-returns c = rw (lt-leb _ _ (c .if1 .taken))
-
-returns-2 : tie.Need-returns-2
-unfolding macResourceKnown
-returns-2 c = rw (le-leb _ _ (c .before .before .before .before .if1 .left), sym (c .before .address-known .ensures) ∙ not-true _ (c .if2 .taken))
 
 returns-3 : tie.Need-returns-3
 unfolding macResourceKnown
 returns-3 c =
     let a = c .before .before .before .before in
     rw (
-      le-leb _ _ (a .before .before .before .if1 .left),
+      le-leb 25 _ (a .before .before .before .if1 .left),
       sym (a .address-known .ensures) ∙ not-false _ (c .before .before .before .if2 .left),
       sym (c .before .granting-known .ensures) ∙ not-true _ (c .if3 .taken),
     )
@@ -30,20 +22,21 @@ returns-4 c =
     let a = g .before .before .before in
     rw (
       c .allocation-known .ensures,
-      le-leb _ _ (a .before .before .before .if1 .left),
+      le-leb 25 _ (a .before .before .before .if1 .left),
       sym (a .address-known .ensures) ∙ not-false _ (g .before .before .if2 .left),
       sym (g .granting-known .ensures) ∙ not-false _ (c .before .before .if3 .left),
     )
 
 pub mac-resource-known-spec : {M : Type 1} → statement M
+unfolding macResourceKnown
 mac-resource-known-spec =
     tie.close
     (tie.spec
-    returns
+    (λ c. rw (lt-leb 25 _ (c .if1 .taken)))
     (λ c. search needs)
     (λ c. search needs)
     (λ c κs. search needs)
-    returns-2
+    (λ c. rw (le-leb 25 _ (c .before .before .before .before .if1 .left), sym (c .before .address-known .ensures) ∙ not-true _ (c .if2 .taken)))
     (λ c. search needs)
     (λ c. search needs)
     (λ c. search needs)

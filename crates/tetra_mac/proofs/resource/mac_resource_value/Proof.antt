@@ -1,5 +1,5 @@
-use Rattle.tetra_mac.specs.MacResource.{macResourceValue}
 use borrow.Author.Needs.{needs}
+use Rattle.tetra_mac.specs.MacResource.{macResourceValue}
 use Rattle.tetra_mac.proofs.resource.mac_resource_value.Statement.{statement}
 use Rattle.tetra_mac.proofs.resource.mac_resource_value.Tie as tie
 

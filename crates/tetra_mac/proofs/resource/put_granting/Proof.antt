@@ -1,19 +1,9 @@
-use mathlib.Core.Path.{ap, _∙_}
+use mathlib.Core.Path.{_∙_}
 use native.Mathlib.Omega.{arith}
-use lib.ListN.{length, length-set}
-use lib.Seq.{length-sets}
 use borrow.Author.Needs.{needs}
+use lib.ListN.{length-set}
 use Rattle.tetra_mac.proofs.resource.put_granting.Statement.{statement}
 use Rattle.tetra_mac.proofs.resource.put_granting.Tie as tie
-
-put-words-requires-2 : tie.Need-put-words-requires-2
-put-words-requires-2 c κs = simp length-set (omega arith)
-
-returns : tie.Need-returns
-returns c = rw (c .before .before .before .before .before .enum-told .given .1) (c .before .before .put-words .ensures)
-
-same-length-2 : tie.Need-same-length-2
-same-length-2 c = ap length (c .before .before .put-words2 .ensures) ∙ simp (length-sets, length-set)
 
 returns-2 : tie.Need-returns-2
 returns-2 c =
@@ -32,8 +22,8 @@ put-granting-spec =
     (λ c κs. search needs)
     (λ c. search needs)
     (λ c. search needs)
-    put-words-requires-2
+    (λ c κs. simp length-set (omega arith))
     (λ c. search needs)
-    returns
-    same-length-2
+    (λ c. rw (c .before .before .before .before .before .enum-told .given .1) (c .before .before .put-words .ensures))
+    (λ c. c .before .before .put-words2 .kept .0 ∙ simp length-set)
     returns-2)

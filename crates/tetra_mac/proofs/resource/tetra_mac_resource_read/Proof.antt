@@ -1,11 +1,8 @@
+use borrow.Author.Needs.{needs}
 use Rattle.tetra_mac.specs.Laws.Reply.{read-no-room, read-replied}
 use Rattle.tetra_mac.specs.Laws.MacResource.{mac-resource-bit}
-use borrow.Author.Needs.{needs}
 use Rattle.tetra_mac.proofs.resource.tetra_mac_resource_read.Statement.{statement}
 use Rattle.tetra_mac.proofs.resource.tetra_mac_resource_read.Tie as tie
-
-returns : tie.Need-returns
-returns c = read-no-room _ _ _ _ _ (c .if1 .taken)
 
 deny-requires : tie.Need-deny-requires
 deny-requires c κs =
@@ -28,7 +25,7 @@ pub tetra-mac-resource-read-spec : {M : Type 1} → statement M
 tetra-mac-resource-read-spec =
     tie.close
     (tie.spec
-    returns
+    (λ c. read-no-room _ _ _ _ _ (c .if1 .taken))
     (λ c κs. search needs)
     (λ c. search needs)
     (λ c κs. search needs)

@@ -1,24 +1,15 @@
 use mathlib.Core.Path.{sym, _∙_}
 use native.Mathlib.Omega.{arith}
+use borrow.Author.Needs.{needs}
 use borrow.Author.Tests.{not-false}
 use lib.ListN.{length-set}
 use Rattle.tetra_mac.specs.Laws.Reply.{count-no-room, count-unknown, count-replied}
 use Rattle.tetra_mac.specs.Laws.MacResource.{mac-resource-long}
-use borrow.Author.Needs.{needs}
 use Rattle.tetra_mac.proofs.resource.tetra_mac_resource_update_len.Statement.{statement}
 use Rattle.tetra_mac.proofs.resource.tetra_mac_resource_update_len.Tie as tie
 
-returns : tie.Need-returns
-returns c = count-no-room _ _ _ _ (c .if1 .taken)
-
-returns-2 : tie.Need-returns-2
-returns-2 c = count-unknown _ _ _ _ (c .before .mac-resource-known .ensures) (c .if2 .taken)
-
 mac-resource-value-requires : tie.Need-mac-resource-value-requires
 mac-resource-value-requires c κs = mac-resource-long _ (sym (c .before .mac-resource-known .ensures) ∙ not-false _ (c .if2 .left))
-
-slice-write-out-2 : tie.Need-slice-write-out-2
-slice-write-out-2 c = simp length-set (omega arith)
 
 returns-3 : tie.Need-returns-3
 returns-3 c =
@@ -38,16 +29,16 @@ pub tetra-mac-resource-update-len-spec : {M : Type 1} → statement M
 tetra-mac-resource-update-len-spec =
     tie.close
     (tie.spec
-    returns
+    (λ c. count-no-room _ _ _ _ (c .if1 .taken))
     (λ c κs. search needs)
-    returns-2
+    (λ c. count-unknown _ _ _ _ (c .before .mac-resource-known .ensures) (c .if2 .taken))
     mac-resource-value-requires
     (λ c κs. search needs)
     (λ c. search needs)
     (λ c. search needs)
     (λ c. search needs)
     (λ c κs. search needs)
-    slice-write-out-2
+    (λ c. simp length-set (omega arith))
     (λ c. search needs)
     (λ c. search needs)
     (λ c. search needs)

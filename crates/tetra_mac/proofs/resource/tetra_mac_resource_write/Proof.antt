@@ -1,16 +1,10 @@
 use mathlib.Core.Path.{sym, _∙_}
+use borrow.Author.Needs.{needs}
 use borrow.Author.Tests.{not-false}
 use Rattle.tetra_mac.specs.Laws.Reply.{write-no-room, record-unknown, record-replied}
 use Rattle.tetra_mac.specs.Laws.MacResource.{mac-resource-long}
-use borrow.Author.Needs.{needs}
 use Rattle.tetra_mac.proofs.resource.tetra_mac_resource_write.Statement.{statement}
 use Rattle.tetra_mac.proofs.resource.tetra_mac_resource_write.Tie as tie
-
-returns : tie.Need-returns
-returns c = write-no-room _ _ _ _ _ (c .if1 .taken)
-
-returns-2 : tie.Need-returns-2
-returns-2 c = record-unknown _ _ _ _ _ (c .before .mac-resource-known .ensures) (c .if2 .taken)
 
 mac-resource-value-requires : tie.Need-mac-resource-value-requires
 mac-resource-value-requires c κs = mac-resource-long _ (sym (c .before .mac-resource-known .ensures) ∙ not-false _ (c .if2 .left))
@@ -26,9 +20,9 @@ pub tetra-mac-resource-write-spec : {M : Type 1} → statement M
 tetra-mac-resource-write-spec =
     tie.close
     (tie.spec
-    returns
+    (λ c. write-no-room _ _ _ _ _ (c .if1 .taken))
     (λ c κs. search needs)
-    returns-2
+    (λ c. record-unknown _ _ _ _ _ (c .before .mac-resource-known .ensures) (c .if2 .taken))
     mac-resource-value-requires
     (λ c κs. search needs)
     (λ c κs. search needs)
