@@ -1,9 +1,5 @@
 // The list of recorded answers, taken apart. A number is one byte below 248, or 247 + n and then n bytes, most significant first. Reading
 // behind the end gives 0, and a place that is too far stays too far, so that a list that was cut off is seen where its record should end.
-pub const WORDS: usize = 32;
-
-pub const BYTES: usize = 32;
-
 const FAR: usize = 1099511627776;
 
 pub struct Number {
@@ -86,6 +82,12 @@ pub fn take(s: &[u8], at: usize) -> Number {
 pub fn take_words(s: &[u8], at: usize, into: &mut [u64; 32]) -> Words {
     let c = take(s, at);
     let count = c.value;
+    if 32 < count {
+        return Words {
+            count: 0,
+            next: FAR,
+        };
+    }
     let mut next = c.next;
     let mut i: usize = 0;
     while i < 32 {

@@ -56,6 +56,16 @@ fn name(call: u64) {
     other(call);
 }
 
+fn call_known(call: u64) -> bool {
+    match call {
+        0..=5 => true,
+        16..=21 => true,
+        32..=34 => true,
+        40..=42 => true,
+        _ => false,
+    }
+}
+
 // ---- counting: for each call the cases that are equal, refused by both, a listed difference, and different; at 192 all cases
 
 fn add(counts: &mut [u64; 193], at: u64) {
@@ -111,14 +121,8 @@ fn row(counts: &[u64; 193], call: u64) {
     let refused = counted(counts, place(call, 1));
     let listed = counted(counts, place(call, 2));
     let different = counted(counts, place(call, 3));
-    if equal == 0 {
-        if refused == 0 {
-            if listed == 0 {
-                if different == 0 {
-                    return;
-                }
-            }
-        }
+    if !call_known(call) {
+        return;
     }
     name(call);
     text(b":");
@@ -287,16 +291,6 @@ fn answers(s: &[u8], r: Record, end: usize, n: u64) -> bool {
     same(n, r.call, &out, &want, &bytes, &left)
 }
 
-fn call_known(call: u64) -> bool {
-    match call {
-        0..=5 => true,
-        16..=21 => true,
-        32..=34 => true,
-        40..=42 => true,
-        _ => false,
-    }
-}
-
 // Refusals are numbered 1 to 14.
 fn class_known(class: u64) -> bool {
     match class {
@@ -318,6 +312,9 @@ fn well_formed(s: &[u8], r: Record, last: usize) -> bool {
         return false;
     }
     if 32 < r.len {
+        return false;
+    }
+    if r.ends == 0 {
         return false;
     }
     if 65536 < r.ends {
