@@ -13,7 +13,7 @@ pub struct Words {
 }
 
 // A record as far as the call's numbers: the call, what the original did, where its bytes and numbers stand, and the window. A record
-// stands for as many windows as it has ends: from end on, one bit longer each.
+// stands for as many windows as ends says: from end on, one bit longer each.
 pub struct Record {
     pub call: u64,
     pub class: u64,
@@ -100,6 +100,20 @@ pub fn take_words(s: &[u8], at: usize, into: &mut [u64; 32]) -> Words {
         i += 1;
     }
     Words { count: 32, next }
+}
+
+// Of pairs, each the count of those that it stands for and what holds for them, what holds for number i.
+pub fn run_of(pairs: &[u64; 32], i: u64) -> u64 {
+    let mut left = i;
+    let mut k: usize = 0;
+    while k < 31 {
+        if left < pairs[k] {
+            return pairs[k + 1];
+        }
+        left = left - pairs[k];
+        k += 2;
+    }
+    0
 }
 
 // n bytes, 32 at most.

@@ -66,10 +66,11 @@ fn call_known(call: u64) -> bool {
     }
 }
 
-// ---- counting: for each call the cases that are equal, refused by both, a listed difference, and different; at 192 all cases
+// ---- counting: for each call the cases that are equal, refused by both, refused by both at the same bit, a listed difference, and not as
+// recorded; at 240 all cases
 
-fn add(counts: &mut [u64; 193], at: u64) {
-    if at < 193 {
+fn add(counts: &mut [u64; 241], at: u64) {
+    if at < 241 {
         let i = at as usize;
         counts[i] = std::num::wrapping_add_u64(counts[i], 1);
     }
@@ -77,60 +78,63 @@ fn add(counts: &mut [u64; 193], at: u64) {
 
 fn column(class: u64, same: bool) -> u64 {
     if !same {
-        return 3;
+        return 4;
     }
-    if class < 2 {
+    if class < 3 {
         return class;
     }
-    2
+    3
 }
 
 // Where a call's cases are counted.
 fn place(call: u64, column: u64) -> u64 {
     if 47 < call {
-        return 192;
+        return 240;
     }
-    if 3 < column {
-        return 192;
+    if 4 < column {
+        return 240;
     }
-    4 * call + column
+    5 * call + column
 }
 
-fn count(counts: &mut [u64; 193], call: u64, class: u64, same: bool) {
+fn count(counts: &mut [u64; 241], call: u64, class: u64, same: bool) {
     add(counts, place(call, column(class, same)));
-    add(counts, 192);
+    add(counts, 240);
 }
 
-fn counted(counts: &[u64; 193], at: u64) -> u64 {
-    if at < 193 { counts[at as usize] } else { 0 }
+fn counted(counts: &[u64; 241], at: u64) -> u64 {
+    if at < 241 { counts[at as usize] } else { 0 }
 }
 
 // The last column of every call together.
-fn different(counts: &[u64; 193]) -> u64 {
+fn different(counts: &[u64; 241]) -> u64 {
     let mut sum: u64 = 0;
     let mut call: u64 = 0;
     while call < 48 {
-        sum = std::num::wrapping_add_u64(sum, counted(counts, place(call, 3)));
+        sum = std::num::wrapping_add_u64(sum, counted(counts, place(call, 4)));
         call += 1;
     }
     sum
 }
 
-fn row(counts: &[u64; 193], call: u64) {
-    let equal = counted(counts, place(call, 0));
+fn row(counts: &[u64; 241], call: u64) {
     let refused = counted(counts, place(call, 1));
-    let listed = counted(counts, place(call, 2));
-    let different = counted(counts, place(call, 3));
+    let stopped = counted(counts, place(call, 2));
+    let different = counted(counts, place(call, 4));
     if !call_known(call) {
         return;
     }
     name(call);
     text(b":");
-    digits(equal);
+    digits(counted(counts, place(call, 0)));
     text(b" equal,");
-    digits(refused);
+    digits(std::num::wrapping_add_u64(refused, stopped));
     text(b" refused by both,");
-    digits(listed);
+    if 0 < stopped {
+        digits(stopped);
+        text(b" of these at the same bit,");
+    }
+    digits(counted(counts, place(call, 3)));
     text(b" listed differences");
     if 0 < different {
         text(b",");
@@ -178,7 +182,7 @@ fn refusal(call: u64, status: u64) -> u64 {
     status
 }
 
-// Whether a status is what the class asks for: done, refused by any number, or refused by the number of the listed difference.
+// Whether a refusal is what the class asks for: none, any, number 1, or that of the listed difference.
 fn agrees(class: u64, number: u64) -> bool {
     if 14 < number {
         return false;
@@ -186,8 +190,18 @@ fn agrees(class: u64, number: u64) -> bool {
     match class {
         0 => number == 0,
         1 => 0 < number,
+        2 => number == 1,
         _ => 16 + number == class,
     }
+}
+
+fn status_agrees(call: u64, class: u64, status: u64, bit: u64) -> bool {
+    if class == 2 {
+        if status / 256 != bit {
+            return false;
+        }
+    }
+    agrees(class, refusal(call, status))
 }
 
 fn case(n: u64, call: u64) {
@@ -206,13 +220,21 @@ fn told(ours: u64, theirs: u64) {
     text(b"\n");
 }
 
-fn recorded(class: u64) {
-    text(b", recorded as");
+fn told_status(status: u64, class: u64, bit: u64) {
+    text(b" status");
+    digits(status % 256);
+    text(b" at bit");
+    digits(status / 256);
     match class {
-        0 => text(b" completed\n"),
-        1 => text(b" refused\n"),
-        _ => text(b" a listed difference\n"),
+        0 => text(b", recorded as completed"),
+        1 => text(b", recorded as refused"),
+        2 => {
+            text(b", recorded as 1 at bit");
+            digits(bit);
+        }
+        _ => text(b", recorded as a listed difference"),
     }
+    text(b"\n");
 }
 
 fn same(
@@ -266,11 +288,26 @@ fn expected(s: &[u8], r: Record, at: usize, want: &mut [u64; 32], left: &mut [u8
     if r.call < 40 {
         want[0] = r.pos as u64;
     }
+    if r.class == 2 {
+        let mut stops = list::untouched();
+        let w = list::take_words(s, at, &mut stops);
+        return w.next;
+    }
     at
 }
 
-// One call: whether it answers as recorded.
-fn answers(s: &[u8], r: Record, end: usize, n: u64) -> bool {
+// The bit at which the original stopped in window i of a record, whose answer stands at a place.
+fn stop(s: &[u8], class: u64, at: usize, i: u64) -> u64 {
+    if class != 2 {
+        return 0;
+    }
+    let mut stops = list::untouched();
+    list::take_words(s, at, &mut stops);
+    list::run_of(&stops, i)
+}
+
+// The call on window i of a record, case n of all: whether it answers as recorded.
+fn answers(s: &[u8], r: Record, i: u64, n: u64) -> bool {
     let mut bytes = list::no_bytes();
     let mut words = list::untouched();
     let mut out = list::untouched();
@@ -279,13 +316,12 @@ fn answers(s: &[u8], r: Record, end: usize, n: u64) -> bool {
     list::take_bytes(s, r.bytes, r.len, &mut bytes);
     let w = list::take_words(s, r.numbers, &mut words);
     expected(s, r, w.next, &mut want, &mut left);
+    let end = list::ahead(r.end, i);
     let status = calls::call(r, end, &mut bytes, &words, w.count, &mut out);
-    let number = refusal(r.call, status);
-    if !agrees(r.class, number) {
+    let bit = stop(s, r.class, w.next, i);
+    if !status_agrees(r.call, r.class, status, bit) {
         case(n, r.call);
-        text(b" status");
-        digits(number);
-        recorded(r.class);
+        told_status(status, r.class, bit);
         return false;
     }
     same(n, r.call, &out, &want, &bytes, &left)
@@ -294,7 +330,7 @@ fn answers(s: &[u8], r: Record, end: usize, n: u64) -> bool {
 // Refusals are numbered 1 to 14.
 fn class_known(class: u64) -> bool {
     match class {
-        0..=1 => true,
+        0..=2 => true,
         17..=30 => true,
         _ => false,
     }
@@ -325,19 +361,19 @@ fn well_formed(s: &[u8], r: Record, last: usize) -> bool {
 }
 
 // The calls of a record, one for each end that it stands for.
-fn ends(s: &[u8], r: Record, counts: &mut [u64; 193]) {
+fn ends(s: &[u8], r: Record, counts: &mut [u64; 241]) {
     let times = r.ends;
     let mut i: usize = 0;
     while i < times {
-        let n = counted(counts, 192);
-        let right = answers(s, r, list::ahead(r.end, i as u64), n);
+        let n = counted(counts, 240);
+        let right = answers(s, r, i as u64, n);
         count(counts, r.call, r.class, right);
         i += 1;
     }
 }
 
 // The record from first to last, unless it is malformed.
-fn replayed(s: &[u8], first: usize, last: usize, counts: &mut [u64; 193]) -> bool {
+fn replayed(s: &[u8], first: usize, last: usize, counts: &mut [u64; 241]) -> bool {
     let r = list::take_record(s, first);
     if !well_formed(s, r, last) {
         return false;
@@ -355,7 +391,7 @@ struct Ended {
 }
 
 // Replays the records up to that of length 0, which has to be the list's last byte.
-fn replay(s: &[u8], counts: &mut [u64; 193]) -> Ended {
+fn replay(s: &[u8], counts: &mut [u64; 241]) -> Ended {
     let mut at: usize = 0;
     while at < s.len() {
         let length = list::take(s, at);
@@ -381,7 +417,7 @@ fn replay(s: &[u8], counts: &mut [u64; 193]) -> Ended {
     Ended { whole: false, at }
 }
 
-fn rows(counts: &[u64; 193]) {
+fn rows(counts: &[u64; 241]) {
     let mut call: u64 = 0;
     while call < 48 {
         row(counts, call);
@@ -390,7 +426,7 @@ fn rows(counts: &[u64; 193]) {
 }
 
 fn main() {
-    let mut counts = [0u64; 193];
+    let mut counts = [0u64; 241];
     let mut room = [0u8; 327680];
     let n = io::read_full(STDIN_FILENO, &mut room);
     let ended = replay(&room[..n], &mut counts);
@@ -400,7 +436,7 @@ fn main() {
         digits(ended.at as u64);
         text(b"\n");
     }
-    io::print_decimal(STDOUT_FILENO, counted(&counts, 192));
+    io::print_decimal(STDOUT_FILENO, counted(&counts, 240));
     text(b" cases,");
     digits(different(&counts));
     text(b" differences\n");

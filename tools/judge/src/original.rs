@@ -1,5 +1,6 @@
 //! The original, behind the same records: a value of a record of words, and back.
 use crate::ours::{Kind, Window};
+use tetra_core::pdu_parse_error::PduParseErr;
 use tetra_core::{BitBuffer, SsiType, TetraAddress};
 use tetra_pdus::umac::enums::access_assign_dl_usage::AccessAssignDlUsage as Dl;
 use tetra_pdus::umac::enums::access_assign_ul_usage::AccessAssignUlUsage as Ul;
@@ -290,16 +291,21 @@ pub fn data(r: &[u64]) -> MacData {
     }
 }
 
+/// The record read at a window, or the original's own error.
+pub fn record(k: Kind, b: &mut BitBuffer) -> Result<Vec<u64>, PduParseErr> {
+    Ok(match k {
+        Kind::Slotgrant => grant_words(&BasicSlotgrant::from_bitbuf(b)?).to_vec(),
+        Kind::Channel => channel_words(&ChanAllocElement::from_bitbuf(b)?).to_vec(),
+        Kind::Resource => resource_words(&MacResource::from_bitbuf(b)?).to_vec(),
+        Kind::Assign => assign_words(&AccessAssign::from_bitbuf(b)?).to_vec(),
+        Kind::Access => access_words(&MacAccess::from_bitbuf(b)?).to_vec(),
+        Kind::Data => data_words(&MacData::from_bitbuf(b)?).to_vec(),
+    })
+}
+
 /// The record read at a window, and the cursor after it.
 pub fn read(k: Kind, b: &mut BitBuffer) -> Option<(usize, Vec<u64>)> {
-    let r = match k {
-        Kind::Slotgrant => grant_words(&BasicSlotgrant::from_bitbuf(b).ok()?).to_vec(),
-        Kind::Channel => channel_words(&ChanAllocElement::from_bitbuf(b).ok()?).to_vec(),
-        Kind::Resource => resource_words(&MacResource::from_bitbuf(b).ok()?).to_vec(),
-        Kind::Assign => assign_words(&AccessAssign::from_bitbuf(b).ok()?).to_vec(),
-        Kind::Access => access_words(&MacAccess::from_bitbuf(b).ok()?).to_vec(),
-        Kind::Data => data_words(&MacData::from_bitbuf(b).ok()?).to_vec(),
-    };
+    let r = record(k, b).ok()?;
     Some((b.get_raw_pos(), r))
 }
 

@@ -3,12 +3,14 @@
 //! A number is one byte below 248, or 247 + n and then n bytes, most significant first. A record is its length, and then:
 //! - the call: 0 to 5 reads and 16 to 21 writes of the six types in the order of KINDS; 32 read_bits, 33 peek_bits_posoffset, 34 write_bits;
 //!   40 compute_len, 41 compute_header_len, 42 update_len_and_fill_ind;
-//! - what the original did: 0 completed, 1 refused, 16 + n completed where a listed difference has this port refuse by the number n;
+//! - what the original did: 0 completed, 1 refused, 2 refused since the bits are at their end, 16 + n completed where a listed difference has
+//!   this port refuse by the number n;
 //! - the bytes, after their count; start, pos and end of the window;
-//! - how many windows it stands for: this one, and those that end 1, 2, .. bits later, which the original refuses too;
+//! - how many windows it stands for: this one, and those that end 1, 2, .. bits later, where the original did the same;
 //! - the call's numbers, after their count: none; the record of the type; the width; the offset + 1024 and the width; the value and the width;
 //!   the record and, for 42, the bits of content;
-//! - for 0 the words of the answer, after their count, the cursor first where the call has one, and the bytes that a call that writes left.
+//! - for 0 the words of the answer, after their count, the cursor first where the call has one, and the bytes that a call that writes left;
+//! - for 2 the bits from pos at which the original stopped, in pairs, after the count of their numbers: for how many windows, and the bit.
 //!
 //! A record of length 0 ends the list.
 use crate::cases::{self, Rng};
@@ -18,6 +20,7 @@ use crate::ours::Window;
 use crate::values;
 use std::collections::HashSet;
 use tetra_core::BitBuffer;
+use tetra_core::pdu_parse_error::PduParseErr;
 
 const WRITE: u8 = 16;
 const READ_BITS: u8 = 32;
@@ -99,6 +102,16 @@ impl<'a> Case<'a> {
         Some(([vec![b.get_raw_pos() as u64], words].concat(), b.into_bytes()))
     }
 
+    /// The bit from pos of the field that a read has no bits for.
+    fn stop(&self) -> Option<u64> {
+        if self.call >= WRITE {
+            return None;
+        }
+        let mut b = original::buffer(self.bytes, self.window)?;
+        let read = caught(|| Some(original::record(KINDS[self.call as usize], &mut b)))?;
+        matches!(read, Err(PduParseErr::BufferEnded { .. })).then(|| (b.get_raw_pos() - self.window.pos) as u64)
+    }
+
     /// The number by which this port refuses where the original completes.
     fn listed(&self, words: &[u64]) -> Option<u8> {
         let (n, w) = (self.numbers, self.window);
@@ -144,23 +157,54 @@ impl List {
     }
 
     fn add(&mut self, c: Case) {
-        let Some((words, left)) = c.answer() else { return self.put(c, 1, 1, &[]) };
-        match c.listed(&words) {
+        self.add_ends(c, c.window.end);
+    }
+
+    fn add_completed(&mut self, c: Case, words: &[u64], left: Vec<u8>) {
+        match c.listed(words) {
             Some(refusal) => self.put(c, 1, 16 + refusal, &[]),
-            None => self.put(c, 1, 0, &[numbers(&words), if c.writes() { left } else { vec![] }].concat()),
+            None => self.put(c, 1, 0, &[numbers(words), if c.writes() { left } else { vec![] }].concat()),
         }
     }
 
-    /// The same call on windows that end anywhere up to `last`.
+    /// Windows whose bits end: how many of them. A record has room for 15 pairs.
+    fn add_stops(&mut self, c: Case, stops: &[u64]) -> usize {
+        let mut pairs: Vec<u64> = vec![];
+        let mut n = 0;
+        for stop in stops {
+            if pairs.last() == Some(stop) {
+                let count = pairs.len() - 2;
+                pairs[count] += 1;
+            } else if pairs.len() < 30 {
+                pairs.extend([1, *stop]);
+            } else {
+                break;
+            }
+            n += 1;
+        }
+        self.put(c, n, 2, &numbers(&pairs));
+        n
+    }
+
+    /// The same call on windows that end anywhere from the case's end to `last`.
     fn add_ends(&mut self, c: Case, last: usize) {
         let mut end = c.window.end;
         while end <= last {
-            let refused = (end..=last).take_while(|e| c.ending(*e).answer().is_none()).count();
-            match refused {
-                0 => self.add(c.ending(end)),
-                n => self.put(c.ending(end), n, 1, &[]),
-            }
-            end += refused.max(1);
+            let here = c.ending(end);
+            let rest = (end..=last).map(|e| c.ending(e));
+            let stops: Vec<u64> = rest.clone().map_while(|c| c.stop()).collect();
+            end += match here.answer() {
+                Some((words, left)) => {
+                    self.add_completed(here, &words, left);
+                    1
+                }
+                None if stops.is_empty() => {
+                    let n = rest.take_while(|c| c.answer().is_none() && c.stop().is_none()).count();
+                    self.put(here, n, 1, &[]);
+                    n
+                }
+                None => self.add_stops(here, &stops),
+            };
         }
     }
 }
@@ -337,7 +381,7 @@ pub fn list() -> Vec<u8> {
     lengths(&mut l);
     windows(&mut l, &mut g);
     bits(&mut l, &mut g);
-    any(&mut l, &mut g, 90);
+    any(&mut l, &mut g, 75);
     l.bytes.push(0);
     println!("{} records, {} cases, {} bytes", l.seen.len(), l.cases, l.bytes.len());
     l.bytes
