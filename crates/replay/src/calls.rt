@@ -55,26 +55,27 @@ fn offset(v: u64) -> isize {
     (v - 1024) as isize
 }
 
+fn word(words: &[u64], i: usize) -> u64 {
+    if i < words.len() { words[i] } else { 0 }
+}
+
 fn bit(
     call: u64,
     s: &mut [u8],
     start: usize,
     pos: usize,
     end: usize,
-    a: u64,
-    b: u64,
+    words: &[u64],
     out: &mut [u64; 32],
 ) -> u64 {
+    let a = word(words, 0);
+    let b = word(words, 1);
     match call {
         32 => bits::tetra_read_bits(s, start, pos, end, a as usize, out),
         33 => bits::tetra_peek_bits(s, start, pos, end, offset(a), b as usize, out),
         34 => bits::tetra_write_bits(s, start, pos, end, a, b as usize, out),
         _ => MALFORMED,
     }
-}
-
-fn word(words: &[u64], i: usize) -> u64 {
-    if i < words.len() { words[i] } else { 0 }
 }
 
 // The bits of content stand behind the record that they are counted with.
@@ -124,8 +125,7 @@ fn cut(
             r.start,
             r.pos,
             end,
-            word(words, 0),
-            word(words, 1),
+            &words[..count],
             out,
         );
     }

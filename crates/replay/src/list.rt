@@ -2,6 +2,8 @@
 // behind the end gives 0, and a place that is too far stays too far, so that a list that was cut off is seen where its record should end.
 const FAR: usize = 1099511627776;
 
+pub const UNTOUCHED: u64 = 6148914691236517205;
+
 pub struct Number {
     pub value: u64,
     pub next: usize,
@@ -33,7 +35,7 @@ pub fn no_bytes() -> [u8; 32] {
 
 // Words that no call wrote.
 pub fn untouched() -> [u64; 32] {
-    [6148914691236517205; 32]
+    [UNTOUCHED; 32]
 }
 
 pub fn wide(x: u8) -> u64 {

@@ -306,6 +306,14 @@ fn stop(s: &[u8], class: u64, at: usize, i: u64) -> u64 {
     list::run_of(&stops, i)
 }
 
+// Whether the bits at which the original stopped are given for the record's windows and no more.
+fn stops_fit(s: &[u8], r: Record, at: usize) -> bool {
+    if r.class != 2 {
+        return true;
+    }
+    stop(s, r.class, at, r.ends as u64) == list::UNTOUCHED
+}
+
 // The call on window i of a record, case n of all: whether it answers as recorded.
 fn answers(s: &[u8], r: Record, i: u64, n: u64) -> bool {
     let mut bytes = list::no_bytes();
@@ -357,6 +365,9 @@ fn well_formed(s: &[u8], r: Record, last: usize) -> bool {
         return false;
     }
     let w = list::take_words(s, r.numbers, &mut words);
+    if !stops_fit(s, r, w.next) {
+        return false;
+    }
     last == expected(s, r, w.next, &mut want, &mut left)
 }
 
