@@ -88,6 +88,19 @@ fn length(call: u64, words: &[u64], out: &mut [u64; 32]) -> u64 {
     }
 }
 
+fn on(r: Record, end: usize, s: &mut [u8], words: &[u64], out: &mut [u64; 32]) -> u64 {
+    if r.call < 16 {
+        return read(r.call, s, r.start, r.pos, end, out);
+    }
+    if r.call < 32 {
+        return write(r.call - 16, s, r.start, r.pos, end, words, out);
+    }
+    if r.call < 40 {
+        return bit(r.call, s, r.start, r.pos, end, words, out);
+    }
+    length(r.call, words, out)
+}
+
 // The call on the record's bytes and numbers, which stand at the start of s and words.
 fn cut(
     r: Record,
@@ -104,32 +117,7 @@ fn cut(
     if words.len() < count {
         return MALFORMED;
     }
-    if r.call < 16 {
-        return read(r.call, &s[..n], r.start, r.pos, end, out);
-    }
-    if r.call < 32 {
-        return write(
-            r.call - 16,
-            &mut s[..n],
-            r.start,
-            r.pos,
-            end,
-            &words[..count],
-            out,
-        );
-    }
-    if r.call < 40 {
-        return bit(
-            r.call,
-            &mut s[..n],
-            r.start,
-            r.pos,
-            end,
-            &words[..count],
-            out,
-        );
-    }
-    length(r.call, &words[..count], out)
+    on(r, end, &mut s[..n], &words[..count], out)
 }
 
 // The status of a record's call, with the end of its window and the call's numbers given.
