@@ -1,6 +1,6 @@
 //! One case: a call and its inputs, what both sides answer, and the class of the two answers.
 use crate::bound;
-use crate::compare::{listed_read, listed_write};
+use crate::kind::{listed_read, listed_write};
 use crate::original::{self, caught};
 use crate::ours::{self, Kind, Out, Refusal, Window};
 use tetra_core::BitBuffer;

@@ -1,13 +1,13 @@
-//! The original as judge: a live comparison, a benchmark and the recorded answers, over the bindings of this port.
+//! The original as judge: a live comparison and a benchmark, over the bindings of this port.
 mod bench;
 mod bound;
 mod case;
 mod cases;
 mod compare;
+mod kind;
 mod names;
 mod original;
 mod ours;
-mod record;
 mod sweep;
 
 fn number(words: &[String], at: usize, otherwise: u64) -> u64 {
@@ -21,9 +21,9 @@ fn main() {
     let done = match words.first().map(String::as_str) {
         Some("compare") => compare::run(number(&words, 1, 10_000_000), number(&words, 2, 1)),
         Some("bench") => bench::run(),
-        Some("record") => record::run(words.get(1).map_or("cases", String::as_str)),
+        Some("alone") => bench::alone(words.get(1).map(|_| number(&words, 1, 0) as usize), words.get(2).is_some_and(|v| v == "port"), number(&words, 3, 1) as usize),
         _ => {
-            eprintln!("judge compare [CASES [SEED]] | bench | record FILE");
+            eprintln!("judge compare [CASES [SEED]] | bench | alone [OPERATION original|port CALLS]");
             false
         }
     };

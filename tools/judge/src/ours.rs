@@ -1,20 +1,9 @@
 //! This port: the types that are compared, and its C interface as it is. bindings/c/tetra_mac.h describes every function and record.
 use tetra_mac::sys;
 
+pub use crate::kind::{KINDS, Kind};
 pub use tetra_mac::sys::Out;
 pub use tetra_mac::{Cursor as Window, Refusal};
-
-#[derive(Clone, Copy, Debug, PartialEq, Eq)]
-pub enum Kind {
-    Slotgrant,
-    Channel,
-    Resource,
-    Assign,
-    Access,
-    Data,
-}
-
-pub const KINDS: [Kind; 6] = [Kind::Slotgrant, Kind::Channel, Kind::Resource, Kind::Assign, Kind::Access, Kind::Data];
 
 fn reader(k: Kind) -> sys::Read {
     match k {

@@ -1,188 +1,388 @@
 //! Recorded answers of the original, for the program crates/replay: crates/replay/stdin.
 //!
-//! A record is its length in two bytes, then: the call (0 to 5 reads, 16 to 21 writes of the six types in the order of KINDS; 32 read_bits,
-//! 33 peek_bits, 34 write_bits; 40 compute_len, 41 compute_header_len, 42 update_len_and_fill_ind); what the original did (0 completed,
-//! 1 refused, 2 completed where a listed difference refuses); the bytes, after their count; start, pos and end in two bytes each; the
-//! call's numbers, after their count; and, where it completed, the words of its answer, after their count, and the bytes it left. A number
-//! is its count of bytes, then these. All most significant first. A record of length 0 ends the file.
+//! A number is one byte below 248, or 247 + n and then n bytes, most significant first. A record is its length, and then:
+//! - the call: 0 to 5 reads and 16 to 21 writes of the six types in the order of KINDS; 32 read_bits, 33 peek_bits_posoffset, 34 write_bits;
+//!   40 compute_len, 41 compute_header_len, 42 update_len_and_fill_ind;
+//! - what the original did: 0 completed, 1 refused, 2 refused since the bits are at their end, 16 + n completed where a listed difference has
+//!   this port refuse by the number n;
+//! - the bytes, after their count; start, pos and end of the window;
+//! - how many windows it stands for: this one, and those that end 1, 2, .. bits later, where the original did the same;
+//! - the call's numbers, after their count: none; the record of the type; the width; the offset + 1024 and the width; the value and the width;
+//!   the record and, for 42, the bits of content;
+//! - for 0 the words of the answer, after their count, the cursor first where the call has one, and the bytes that a call that writes left;
+//! - for 2 the bits from pos at which the original stopped, in pairs, after the count of their numbers: for how many windows, and the bit.
+//!
+//! A record of length 0 ends the list.
 use crate::cases::{self, Rng};
-use crate::compare::{listed_read, listed_write};
+use crate::kind::{KINDS, Kind, listed_read, listed_write};
 use crate::original::{self, caught};
-use crate::ours::{KINDS, Kind, Window};
+use crate::ours::Window;
+use crate::values;
+use std::collections::HashSet;
+use tetra_core::BitBuffer;
+use tetra_core::pdu_parse_error::PduParseErr;
 
-struct File {
-    bytes: Vec<u8>,
-    count: u64,
+const WRITE: u8 = 16;
+const READ_BITS: u8 = 32;
+const PEEK_BITS: u8 = 33;
+const WRITE_BITS: u8 = 34;
+const CHANNEL_LEN: u8 = 40;
+const HEADER_LEN: u8 = 41;
+const UPDATE_LEN: u8 = 42;
+
+const NO_OFFSET: u64 = 1024;
+const NO_WINDOW: Window = Window { start: 0, pos: 0, end: 0 };
+
+/// A call and what it is called on.
+#[derive(Clone, Copy)]
+struct Case<'a> {
+    call: u8,
+    bytes: &'a [u8],
+    window: Window,
+    numbers: &'a [u64],
 }
 
-struct Case {
-    call: u8,
-    bytes: Vec<u8>,
-    window: Window,
-    numbers: Vec<u64>,
-    class: u8,
-    answer: Vec<u64>,
-    left: Vec<u8>,
+/// The words of an answer, and the bytes that the call left.
+type Answer = Option<(Vec<u64>, Vec<u8>)>;
+
+impl<'a> Case<'a> {
+    fn read(k: Kind, bytes: &'a [u8], window: Window) -> Self {
+        Case { call: k as u8, bytes, window, numbers: &[] }
+    }
+
+    fn write(k: Kind, bytes: &'a [u8], window: Window, numbers: &'a [u64]) -> Self {
+        Case { call: WRITE + k as u8, bytes, window, numbers }
+    }
+
+    fn length(call: u8, numbers: &'a [u64]) -> Self {
+        Case { call, bytes: &[], window: NO_WINDOW, numbers }
+    }
+
+    fn ending(self, end: usize) -> Self {
+        Case { window: Window { end, ..self.window }, ..self }
+    }
+
+    fn writes(&self) -> bool {
+        (WRITE..READ_BITS).contains(&self.call) || self.call == WRITE_BITS
+    }
+
+    fn lengths(&self) -> Vec<u64> {
+        if self.call == CHANNEL_LEN {
+            return vec![original::channel(self.numbers).compute_len() as u64];
+        }
+        let mut h = original::resource(self.numbers);
+        if self.call == HEADER_LEN {
+            return vec![h.compute_header_len() as u64];
+        }
+        let fill = h.update_len_and_fill_ind(self.numbers[25] as usize) as u64;
+        vec![h.length_ind as u64, h.fill_bits as u64, fill]
+    }
+
+    fn on(&self, b: &mut BitBuffer) -> Option<Vec<u64>> {
+        let n = self.numbers;
+        match self.call {
+            READ_BITS => Some(vec![b.read_bits(n[0] as usize)?]),
+            PEEK_BITS => Some(vec![b.peek_bits_posoffset(n[0] as isize - NO_OFFSET as isize, n[1] as usize)?]),
+            WRITE_BITS => {
+                b.write_bits(n[0], n[1] as usize);
+                Some(vec![])
+            }
+            call if call < WRITE => original::read(KINDS[call as usize], b).map(|(_, record)| record),
+            call => original::write(KINDS[(call - WRITE) as usize], b, n).map(|_| vec![]),
+        }
+    }
+
+    /// None where the original returns an error or None, or panics.
+    fn answer(&self) -> Answer {
+        if self.call >= CHANNEL_LEN {
+            return caught(|| Some((self.lengths(), vec![])));
+        }
+        let mut b = original::buffer(self.bytes, self.window)?;
+        let words = caught(|| self.on(&mut b))?;
+        Some(([vec![b.get_raw_pos() as u64], words].concat(), b.into_bytes()))
+    }
+
+    /// The bit from pos of the field that a read has no bits for.
+    fn stop(&self) -> Option<u64> {
+        if self.call >= WRITE {
+            return None;
+        }
+        let mut b = original::buffer(self.bytes, self.window)?;
+        let read = caught(|| Some(original::record(KINDS[self.call as usize], &mut b)))?;
+        matches!(read, Err(PduParseErr::BufferEnded { .. })).then(|| (b.get_raw_pos() - self.window.pos) as u64)
+    }
+
+    /// The number by which this port refuses where the original completes.
+    fn listed(&self, words: &[u64]) -> Option<u8> {
+        let (n, w) = (self.numbers, self.window);
+        match self.call {
+            PEEK_BITS => (w.pos as u64 + n[0] < w.start as u64 + NO_OFFSET).then_some(1),
+            UPDATE_LEN => (original::resource(n).compute_header_len() as u64 + n[25] > 488).then_some(8),
+            call if call < WRITE => listed_read(KINDS[call as usize], words[0] as usize - w.pos, &words[1..]).map(|d| d.1),
+            call if call < READ_BITS => listed_write(KINDS[(call - WRITE) as usize], n).map(|d| d.1),
+            _ => None,
+        }
+    }
 }
 
 fn number(v: u64) -> Vec<u8> {
+    if v < 248 {
+        return vec![v as u8];
+    }
     let n = (71 - v.leading_zeros() as usize) / 8;
-    let mut out = vec![n as u8];
-    out.extend_from_slice(&v.to_be_bytes()[8 - n..]);
-    out
+    [vec![247 + n as u8], v.to_be_bytes()[8 - n..].to_vec()].concat()
 }
 
-impl File {
-    fn put(&mut self, c: Case) {
-        let mut r = vec![c.call, c.class, c.bytes.len() as u8];
-        r.extend_from_slice(&c.bytes);
-        for v in [c.window.start, c.window.pos, c.window.end] {
-            r.extend_from_slice(&(v as u16).to_be_bytes());
-        }
-        r.push(c.numbers.len() as u8);
-        c.numbers.iter().for_each(|v| r.extend(number(*v)));
-        if c.class == 0 {
-            r.push(c.answer.len() as u8);
-            c.answer.iter().for_each(|v| r.extend(number(*v)));
-            r.extend_from_slice(&c.left);
-        }
-        self.bytes.extend_from_slice(&(r.len() as u16).to_be_bytes());
-        self.bytes.extend(r);
-        self.count += 1;
-    }
-
-    fn read(&mut self, k: Kind, s: &[u8], w: Window) {
-        let theirs = original::buffer(s, w).and_then(|mut b| caught(|| original::read(k, &mut b)));
-        let class = theirs.as_ref().map_or(1, |(p, r)| if listed_read(k, p - w.pos, r).is_some() { 2 } else { 0 });
-        let answer = theirs.map_or(vec![], |(p, r)| [vec![p as u64], r].concat());
-        self.put(Case { call: k as u8, bytes: s.to_vec(), window: w, numbers: vec![], class, answer, left: vec![] });
-    }
-
-    fn write(&mut self, k: Kind, s: &[u8], w: Window, record: &[u64]) {
-        let theirs = original::buffer(s, w).and_then(|mut b| caught(move || original::write(k, &mut b, record).map(|p| (p, b.into_bytes()))));
-        let class = theirs.as_ref().map_or(1, |_| if listed_write(k, record).is_some() { 2 } else { 0 });
-        let (answer, left) = theirs.map_or((vec![], vec![]), |(p, t)| (vec![p as u64], t));
-        self.put(Case { call: 16 + k as u8, bytes: s.to_vec(), window: w, numbers: record.to_vec(), class, answer, left });
-    }
+fn numbers(v: &[u64]) -> Vec<u8> {
+    number(v.len() as u64).into_iter().chain(v.iter().flat_map(|v| number(*v))).collect()
 }
 
-/// Good headers of every form, each read whole and cut at every bit, behind a start that is no octet.
-fn forms(f: &mut File, g: &mut Rng) {
-    for k in KINDS {
-        for turn in 0..24 {
-            let record = form(g, k, turn);
-            let start = (turn % 11) as usize;
-            let whole = Window { start, pos: start, end: 136 };
-            let s = vec![(37 * turn) as u8; 17];
-            f.write(k, &s, whole, &record);
-            let Some(mut b) = original::buffer(&s, whole) else { continue };
-            let Some(end) = caught(|| original::write(k, &mut b, &record)) else { continue };
-            let t = b.into_bytes();
-            let kept = &t[..end.div_ceil(8)];
-            for cut in start..=end {
-                if turn < 8 || cut == end || (cut + turn as usize) % 5 == 0 {
-                    f.read(k, kept, Window { start, pos: start, end: cut });
+#[derive(Default)]
+struct List {
+    bytes: Vec<u8>,
+    seen: HashSet<Vec<u8>>,
+    cases: u64,
+}
+
+impl List {
+    fn put(&mut self, c: Case, ends: usize, class: u8, answer: &[u8]) {
+        let w = c.window;
+        let window = [w.start, w.pos, w.end, ends].map(|v| number(v as u64)).concat();
+        let r = [&[c.call, class, c.bytes.len() as u8], c.bytes, &window, &numbers(c.numbers), answer].concat();
+        if self.seen.insert(r.clone()) {
+            self.bytes.extend(number(r.len() as u64));
+            self.bytes.extend(r);
+            self.cases += ends as u64;
+        }
+    }
+
+    fn add(&mut self, c: Case) {
+        self.add_ends(c, c.window.end);
+    }
+
+    fn add_completed(&mut self, c: Case, words: &[u64], left: Vec<u8>) {
+        match c.listed(words) {
+            Some(refusal) => self.put(c, 1, 16 + refusal, &[]),
+            None => self.put(c, 1, 0, &[numbers(words), if c.writes() { left } else { vec![] }].concat()),
+        }
+    }
+
+    /// Windows whose bits end: how many of them. A record has room for 15 pairs.
+    fn add_stops(&mut self, c: Case, stops: &[u64]) -> usize {
+        let mut pairs: Vec<u64> = vec![];
+        let mut n = 0;
+        for stop in stops {
+            if pairs.last() == Some(stop) {
+                let count = pairs.len() - 2;
+                pairs[count] += 1;
+            } else if pairs.len() < 30 {
+                pairs.extend([1, *stop]);
+            } else {
+                break;
+            }
+            n += 1;
+        }
+        self.put(c, n, 2, &numbers(&pairs));
+        n
+    }
+
+    /// The same call on windows that end anywhere from the case's end to `last`.
+    fn add_ends(&mut self, c: Case, last: usize) {
+        let mut end = c.window.end;
+        while end <= last {
+            let here = c.ending(end);
+            let rest = (end..=last).map(|e| c.ending(e));
+            let stops: Vec<u64> = rest.clone().map_while(|c| c.stop()).collect();
+            end += match here.answer() {
+                Some((words, left)) => {
+                    self.add_completed(here, &words, left);
+                    1
                 }
+                None if stops.is_empty() => {
+                    let n = rest.take_while(|c| c.answer().is_none() && c.stop().is_none()).count();
+                    self.put(here, n, 1, &[]);
+                    n
+                }
+                None => self.add_stops(here, &stops),
+            };
+        }
+    }
+}
+
+/// Bytes for any header of a type behind a start of up to 12 bits.
+fn room(k: Kind) -> usize {
+    match k {
+        Kind::Slotgrant => 3,
+        Kind::Channel => 5,
+        Kind::Resource => 13,
+        Kind::Assign => 4,
+        Kind::Access => 6,
+        Kind::Data => 7,
+    }
+}
+
+/// A record of words written, and read again from where it was written.
+fn write_and_read(l: &mut List, k: Kind, r: &[u64], turn: usize, cut: bool) -> Option<(Vec<u8>, Window)> {
+    let start = turn % 10;
+    let pos = start + turn % 3;
+    let s = vec![(37 * turn) as u8; room(k)];
+    let c = Case::write(k, &s, Window { start, pos, end: 8 * s.len() }, r);
+    l.add(c);
+    let (words, left) = c.answer()?;
+    let end = words[0] as usize;
+    let kept = left[..end.div_ceil(8)].to_vec();
+    if cut {
+        l.add_ends(Case::write(k, &s[..kept.len()], Window { start, pos, end: pos }, r), end);
+        l.add_ends(Case::read(k, &kept, Window { start, pos, end: pos }), end);
+    } else {
+        l.add(Case::read(k, &kept, Window { start, pos, end }));
+    }
+    Some((kept, Window { start, pos, end }))
+}
+
+/// A good header with each of its bits turned.
+fn turned(l: &mut List, k: Kind, s: &[u8], w: Window) {
+    for at in w.pos..w.end {
+        let mut t = s.to_vec();
+        t[at / 8] ^= 0x80 >> (at % 8);
+        l.add(Case::read(k, &t, w));
+    }
+}
+
+fn headers(l: &mut List) {
+    for k in KINDS {
+        for (turn, r) in values::forms(k).iter().enumerate() {
+            let Some((s, w)) = write_and_read(l, k, r, turn, true) else { continue };
+            if k != Kind::Resource || r[5] == 0 || (r[9] + r[11] + r[15] == 3 && r[22] == 0) {
+                turned(l, k, &s, w);
             }
-            if end > start {
-                f.write(k, &s[..end.div_ceil(8)], Window { start, pos: start, end: end - 1 }, &record);
-            }
+        }
+        for (turn, r) in values::values(k).iter().enumerate() {
+            write_and_read(l, k, r, turn, false);
         }
     }
 }
 
-/// Address types and flags of a MAC-RESOURCE in turn; values of the other types as they come.
-fn form(g: &mut Rng, k: Kind, turn: u64) -> Vec<u64> {
-    let mut r = cases::record(g, k);
-    if k == Kind::Resource {
-        while r[5] != turn % 8 {
-            r = cases::record(g, k);
-        }
-        if turn < 16 {
-            r[9] = turn & 1;
-            r[11] = (turn >> 1) & 1;
-            r[15] = (turn >> 2) & 1;
-        }
-    }
-    r
-}
-
-fn bits(f: &mut File, g: &mut Rng) {
-    for turn in 0..600 {
-        let n = 1 + g.below(12) as usize;
-        let s = cases::bytes(g, n);
-        let w = cases::window(g, n);
-        let width = if turn < 66 { turn as usize } else { g.below(67) as usize };
-        let theirs = original::buffer(&s, w).and_then(|mut b| caught(|| b.read_bits(width).map(|v| vec![b.get_raw_pos() as u64, v])));
-        let class = theirs.is_none() as u8;
-        f.put(Case { call: 32, bytes: s.clone(), window: w, numbers: vec![width as u64], class, answer: theirs.unwrap_or_default(), left: vec![] });
-        let offset = g.below(100);
-        let theirs = original::buffer(&s, w).and_then(|b| caught(|| b.peek_bits_posoffset(offset as isize, width).map(|v| vec![b.get_raw_pos() as u64, v])));
-        let class = theirs.is_none() as u8;
-        f.put(Case { call: 33, bytes: s.clone(), window: w, numbers: vec![offset, width as u64], class, answer: theirs.unwrap_or_default(), left: vec![] });
-        let value = g.next() >> g.below(64);
-        let theirs = original::buffer(&s, w).and_then(|mut b| {
-            caught(move || {
-                b.write_bits(value, width);
-                Some((b.get_raw_pos(), b.into_bytes()))
-            })
-        });
-        let class = theirs.is_none() as u8;
-        let (answer, left) = theirs.map_or((vec![], vec![]), |(p, t)| (vec![p as u64], t));
-        f.put(Case { call: 34, bytes: s, window: w, numbers: vec![value, width as u64], class, answer, left });
-    }
-}
-
-fn lengths(f: &mut File, g: &mut Rng) {
-    let none = Window { start: 0, pos: 0, end: 0 };
-    let mut put = |call: u8, numbers: Vec<u64>, theirs: Option<Vec<u64>>, class: u8| {
-        f.put(Case { call, bytes: vec![], window: none, numbers, class, answer: theirs.unwrap_or_default(), left: vec![] });
-    };
-    for _ in 0..200 {
-        let r = cases::record(g, Kind::Channel);
-        let theirs = caught(|| Some(vec![original::channel(&r).compute_len() as u64]));
-        let class = theirs.is_none() as u8;
-        put(40, r, theirs, class);
-        let r = cases::record(g, Kind::Resource);
-        let theirs = caught(|| Some(vec![original::resource(&r).compute_header_len() as u64]));
-        let class = theirs.is_none() as u8;
-        put(41, r.clone(), theirs, class);
-        let content = g.below(520);
-        let theirs = caught(|| {
-            let mut h = original::resource(&r);
-            let total = h.compute_header_len() + content as usize;
-            let fill = h.update_len_and_fill_ind(content as usize);
-            Some((total, vec![h.length_ind as u64, h.fill_bits as u64, fill as u64]))
-        });
-        let class = theirs.as_ref().map_or(1, |(n, _)| if *n > 488 { 2 } else { 0 });
-        put(42, [r, vec![content]].concat(), theirs.map(|(_, v)| v), class);
-    }
-}
-
-pub fn run(file: &str) -> bool {
-    let mut f = File { bytes: vec![], count: 0 };
-    let mut g = Rng(2026);
+/// Every slot grant, and every ACCESS-ASSIGN field beside a few others.
+fn every_value(l: &mut List) {
     for v in 0..=255u8 {
-        f.read(Kind::Slotgrant, &[v], Window { start: 0, pos: 0, end: 8 });
+        l.add(Case::read(Kind::Slotgrant, &[v], Window { start: 0, pos: 0, end: 8 }));
     }
-    for v in (0..1u32 << 14).step_by(7) {
-        f.read(Kind::Assign, &((v << 2) as u16).to_be_bytes(), Window { start: 0, pos: 0, end: 14 });
-    }
-    forms(&mut f, &mut g);
-    for _ in 0..250 {
-        for k in KINDS {
-            let (s, w) = cases::to_read(&mut g, k);
-            f.read(k, &s, w);
-            let n = g.below(17) as usize;
-            let s = cases::bytes(&mut g, n);
-            let w = cases::window(&mut g, n);
-            let r = cases::record(&mut g, k);
-            f.write(k, &s, w, &r);
+    for v in 0..256u16 {
+        for other in [0, 37] {
+            let (header, field) = (v >> 6, v & 63);
+            for fields in [field << 6 | other, other << 6 | field] {
+                let s = (header << 14 | fields << 2).to_be_bytes();
+                l.add(Case::read(Kind::Assign, &s, Window { start: 0, pos: 0, end: 14 }));
+            }
         }
     }
-    bits(&mut f, &mut g);
-    lengths(&mut f, &mut g);
-    f.bytes.extend_from_slice(&[0, 0]);
-    println!("{} cases, {} bytes", f.count, f.bytes.len());
-    std::fs::write(file, &f.bytes).is_ok()
+}
+
+/// The bits that begin a MAC-RESOURCE: each first 7 bits and each length, of a null PDU and of one with an SSI.
+fn beginnings(l: &mut List) {
+    let w = Window { start: 0, pos: 0, end: 43 };
+    for address in [0, 1] {
+        for v in 0..128u16 {
+            let begin = (v << 9 | 34 << 3 | address).to_be_bytes();
+            l.add(Case::read(Kind::Resource, &[begin[0], begin[1], 0x12, 0x34, 0x56, 0], w));
+        }
+        for length in 0..64u16 {
+            let begin = (length << 3 | address).to_be_bytes();
+            l.add(Case::read(Kind::Resource, &[begin[0], begin[1], 0x12, 0x34, 0x56, 0], w));
+        }
+    }
+}
+
+/// Windows that are none.
+fn bad_windows(l: &mut List, c: Case) {
+    let e = 8 * c.bytes.len();
+    for (start, pos, end) in [(1, 0, e), (0, e + 1, e), (0, 0, e + 1), (0, 8, 7), (3, 2, 1), (0, 0, 65536), (0, 0, 65537), (e + 1, e + 1, e + 1)] {
+        l.add(Case { window: Window { start, pos, end }, ..c });
+    }
+}
+
+fn windows(l: &mut List, g: &mut Rng) {
+    for k in KINDS {
+        let s = cases::bytes(g, room(k));
+        bad_windows(l, Case::read(k, &s, NO_WINDOW));
+        bad_windows(l, Case::write(k, &s, NO_WINDOW, &values::forms(k)[0]));
+    }
+    for (call, n) in [(READ_BITS, vec![3]), (PEEK_BITS, vec![NO_OFFSET, 3]), (WRITE_BITS, vec![5, 3])] {
+        bad_windows(l, Case { call, bytes: &[1, 2, 3], window: NO_WINDOW, numbers: &n });
+    }
+}
+
+/// Headers and records as they come, in windows that start and end anywhere.
+fn any(l: &mut List, g: &mut Rng, rounds: u64) {
+    for _ in 0..rounds {
+        for k in KINDS {
+            let (s, w) = cases::to_read(g, k);
+            l.add(Case::read(k, &s[..w.end.div_ceil(8)], w));
+            let n = g.below(room(k) as u64 + 2) as usize;
+            let s = cases::bytes(g, n);
+            let w = cases::window(g, n);
+            l.add(Case::write(k, &s, w, &cases::record(g, k)));
+        }
+    }
+}
+
+/// Each width, in windows as they come and in those that it fits.
+fn bits(l: &mut List, g: &mut Rng) {
+    for turn in 0..6 * 67 {
+        let width = turn % 67;
+        let n = 9 + g.below(4) as usize;
+        let s = cases::bytes(g, n);
+        let mut w = cases::window(g, n);
+        if turn / 67 % 3 != 0 {
+            w.pos = g.below(8 * n as u64 - width + 1) as usize;
+            w.start = g.below(w.pos as u64 + 1) as usize;
+            w.end = w.pos + width as usize + g.below((8 * n - w.pos) as u64 - width + 1) as usize;
+        }
+        l.add(Case { call: READ_BITS, bytes: &s, window: w, numbers: &[width] });
+        l.add(Case { call: PEEK_BITS, bytes: &s, window: w, numbers: &[NO_OFFSET + g.below(60) - 30, width / 3] });
+        let shift = 64u64.saturating_sub(width).min(63);
+        let value = match turn % 7 {
+            0 => 0,
+            1 => u64::MAX >> shift,
+            2 => 1u64.checked_shl(width as u32).unwrap_or(u64::MAX),
+            _ => g.next() >> shift,
+        };
+        l.add(Case { call: WRITE_BITS, bytes: &s, window: w, numbers: &[value, width] });
+    }
+}
+
+fn lengths(l: &mut List) {
+    for r in values::values(Kind::Channel) {
+        l.add(Case::length(CHANNEL_LEN, &r));
+    }
+    for r in values::values(Kind::Resource).iter().filter(|r| r[15] == 1 && r[5] == 2) {
+        l.add(Case::length(HEADER_LEN, r));
+        l.add(Case::length(UPDATE_LEN, &[&r[..], &[100]].concat()));
+    }
+    for (turn, r) in values::forms(Kind::Resource).iter().enumerate() {
+        let c = Case::length(HEADER_LEN, r);
+        l.add(c);
+        let header = c.lengths()[0];
+        let every = [header, header + 1, 280, 281, 480, 487, 488, 489, 496, 497, 504, 505, 2040, 2048];
+        let some = [header + turn as u64, 488, 489];
+        for total in if turn % 16 == 0 { &every[..] } else { &some[..] } {
+            l.add(Case::length(UPDATE_LEN, &[&r[..], &[total.saturating_sub(header)]].concat()));
+        }
+    }
+}
+
+pub fn list() -> Vec<u8> {
+    let mut l = List::default();
+    let mut g = Rng(2026);
+    headers(&mut l);
+    every_value(&mut l);
+    beginnings(&mut l);
+    lengths(&mut l);
+    windows(&mut l, &mut g);
+    bits(&mut l, &mut g);
+    any(&mut l, &mut g, 75);
+    l.bytes.push(0);
+    println!("{} records, {} cases, {} bytes", l.seen.len(), l.cases, l.bytes.len());
+    l.bytes
 }

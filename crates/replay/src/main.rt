@@ -1,0 +1,454 @@
+// Replays the answers of the original that the list, standard input, has over the proved library. It prints how many calls of each kind
+// answered alike, and each that did not.
+mod calls;
+mod list;
+
+use libc::STDIN_FILENO;
+use libc::STDOUT_FILENO;
+use list::Record;
+
+// ---- printing
+
+fn text(t: &[u8]) {
+    io::write_all(STDOUT_FILENO, t);
+}
+
+fn digits(n: u64) {
+    text(b" ");
+    io::print_decimal(STDOUT_FILENO, n);
+}
+
+fn kind(k: u64) {
+    match k {
+        0 => text(b" slot grant"),
+        1 => text(b" channel allocation"),
+        2 => text(b" MAC-RESOURCE"),
+        3 => text(b" ACCESS-ASSIGN"),
+        4 => text(b" MAC-ACCESS"),
+        5 => text(b" MAC-DATA"),
+        _ => text(b" unknown"),
+    }
+}
+
+fn other(call: u64) {
+    match call {
+        32 => text(b"read_bits"),
+        33 => text(b"peek_bits_posoffset"),
+        34 => text(b"write_bits"),
+        40 => text(b"compute_len"),
+        41 => text(b"compute_header_len"),
+        42 => text(b"update_len_and_fill_ind"),
+        _ => text(b"unknown"),
+    }
+}
+
+fn name(call: u64) {
+    if call < 16 {
+        text(b"read");
+        kind(call);
+        return;
+    }
+    if call < 32 {
+        text(b"write");
+        kind(call - 16);
+        return;
+    }
+    other(call);
+}
+
+fn call_known(call: u64) -> bool {
+    match call {
+        0..=5 => true,
+        16..=21 => true,
+        32..=34 => true,
+        40..=42 => true,
+        _ => false,
+    }
+}
+
+// ---- counting: for each call the cases that are equal, refused by both, refused by both at the same bit, a listed difference, and not as
+// recorded; at 240 all cases
+
+fn add(counts: &mut [u64; 241], at: u64) {
+    if at < 241 {
+        let i = at as usize;
+        counts[i] = std::num::wrapping_add_u64(counts[i], 1);
+    }
+}
+
+fn column(class: u64, same: bool) -> u64 {
+    if !same {
+        return 4;
+    }
+    if class < 3 {
+        return class;
+    }
+    3
+}
+
+// Where a call's cases are counted.
+fn place(call: u64, column: u64) -> u64 {
+    if 47 < call {
+        return 240;
+    }
+    if 4 < column {
+        return 240;
+    }
+    5 * call + column
+}
+
+fn count(counts: &mut [u64; 241], call: u64, class: u64, same: bool) {
+    add(counts, place(call, column(class, same)));
+    add(counts, 240);
+}
+
+fn counted(counts: &[u64; 241], at: u64) -> u64 {
+    if at < 241 { counts[at as usize] } else { 0 }
+}
+
+// The last column of every call together.
+fn different(counts: &[u64; 241]) -> u64 {
+    let mut sum: u64 = 0;
+    let mut call: u64 = 0;
+    while call < 48 {
+        sum = std::num::wrapping_add_u64(sum, counted(counts, place(call, 4)));
+        call += 1;
+    }
+    sum
+}
+
+fn row(counts: &[u64; 241], call: u64) {
+    let refused = counted(counts, place(call, 1));
+    let stopped = counted(counts, place(call, 2));
+    let different = counted(counts, place(call, 4));
+    if !call_known(call) {
+        return;
+    }
+    name(call);
+    text(b":");
+    digits(counted(counts, place(call, 0)));
+    text(b" equal,");
+    digits(std::num::wrapping_add_u64(refused, stopped));
+    text(b" refused by both,");
+    if 0 < stopped {
+        digits(stopped);
+        text(b" of these at the same bit,");
+    }
+    digits(counted(counts, place(call, 3)));
+    text(b" listed differences");
+    if 0 < different {
+        text(b",");
+        digits(different);
+        text(b" DIFFERENT");
+    }
+    text(b"\n");
+}
+
+// ---- comparing
+
+fn differing_word(a: &[u64; 32], b: &[u64; 32]) -> usize {
+    let mut i: usize = 0;
+    while i < 32 {
+        if a[i] != b[i] {
+            return i;
+        }
+        i += 1;
+    }
+    32
+}
+
+fn differing_byte(a: &[u8; 32], b: &[u8; 32]) -> usize {
+    let mut i: usize = 0;
+    while i < 32 {
+        if a[i] != b[i] {
+            return i;
+        }
+        i += 1;
+    }
+    32
+}
+
+// A refused read's status has the bit of the field too.
+fn refusal(call: u64, status: u64) -> u64 {
+    if call < 16 {
+        return status % 256;
+    }
+    if call < 32 {
+        return status;
+    }
+    if call < 34 {
+        return status % 256;
+    }
+    status
+}
+
+// Whether a refusal is what the class asks for: none, any, number 1, or that of the listed difference.
+fn agrees(class: u64, number: u64) -> bool {
+    if 14 < number {
+        return false;
+    }
+    match class {
+        0 => number == 0,
+        1 => 0 < number,
+        2 => number == 1,
+        _ => 16 + number == class,
+    }
+}
+
+fn status_agrees(call: u64, class: u64, status: u64, bit: u64) -> bool {
+    if class == 2 {
+        if status / 256 != bit {
+            return false;
+        }
+    }
+    agrees(class, refusal(call, status))
+}
+
+fn case(n: u64, call: u64) {
+    text(b"case");
+    digits(n);
+    text(b", ");
+    name(call);
+    text(b":");
+}
+
+fn told(ours: u64, theirs: u64) {
+    text(b" is");
+    digits(ours);
+    text(b", recorded");
+    digits(theirs);
+    text(b"\n");
+}
+
+fn told_status(status: u64, class: u64, bit: u64) {
+    text(b" status");
+    digits(status % 256);
+    text(b" at bit");
+    digits(status / 256);
+    match class {
+        0 => text(b", recorded as completed"),
+        1 => text(b", recorded as refused"),
+        2 => {
+            text(b", recorded as 1 at bit");
+            digits(bit);
+        }
+        _ => text(b", recorded as a listed difference"),
+    }
+    text(b"\n");
+}
+
+fn same(
+    n: u64,
+    call: u64,
+    out: &[u64; 32],
+    want: &[u64; 32],
+    bytes: &[u8; 32],
+    left: &[u8; 32],
+) -> bool {
+    let i = differing_word(out, want);
+    if i < 32 {
+        case(n, call);
+        text(b" word");
+        digits(i as u64);
+        told(out[i], want[i]);
+        return false;
+    }
+    let j = differing_byte(bytes, left);
+    if j < 32 {
+        case(n, call);
+        text(b" byte");
+        digits(j as u64);
+        told(list::wide(bytes[j]), list::wide(left[j]));
+        return false;
+    }
+    true
+}
+
+// ---- a record
+
+fn writes(call: u64) -> bool {
+    match call {
+        16..=31 => true,
+        34 => true,
+        _ => false,
+    }
+}
+
+// The words and the bytes that a call has to leave, from the record's answer at a place; the record's end.
+fn expected(s: &[u8], r: Record, at: usize, want: &mut [u64; 32], left: &mut [u8; 32]) -> usize {
+    list::take_bytes(s, r.bytes, r.len, left);
+    if r.class == 0 {
+        let answer = list::take_words(s, at, want);
+        if writes(r.call) {
+            list::take_bytes(s, answer.next, r.len, left);
+            return list::ahead(answer.next, r.len as u64);
+        }
+        return answer.next;
+    }
+    if r.call < 40 {
+        want[0] = r.pos as u64;
+    }
+    if r.class == 2 {
+        let mut stops = list::untouched();
+        let w = list::take_words(s, at, &mut stops);
+        return w.next;
+    }
+    at
+}
+
+// The bit at which the original stopped in window i of a record, whose answer stands at a place.
+fn stop(s: &[u8], class: u64, at: usize, i: u64) -> u64 {
+    if class != 2 {
+        return 0;
+    }
+    let mut stops = list::untouched();
+    list::take_words(s, at, &mut stops);
+    list::run_of(&stops, i)
+}
+
+// Whether the bits at which the original stopped are given for the record's windows and no more.
+fn stops_fit(s: &[u8], r: Record, at: usize) -> bool {
+    if r.class != 2 {
+        return true;
+    }
+    stop(s, r.class, at, r.ends as u64) == list::UNTOUCHED
+}
+
+// The call on window i of a record, case n of all: whether it answers as recorded.
+fn answers(s: &[u8], r: Record, i: u64, n: u64) -> bool {
+    let mut bytes = list::no_bytes();
+    let mut words = list::untouched();
+    let mut out = list::untouched();
+    let mut want = list::untouched();
+    let mut left = list::no_bytes();
+    list::take_bytes(s, r.bytes, r.len, &mut bytes);
+    let w = list::take_words(s, r.numbers, &mut words);
+    expected(s, r, w.next, &mut want, &mut left);
+    let end = list::ahead(r.end, i);
+    let status = calls::call(r, end, &mut bytes, &words, w.count, &mut out);
+    let bit = stop(s, r.class, w.next, i);
+    if !status_agrees(r.call, r.class, status, bit) {
+        case(n, r.call);
+        told_status(status, r.class, bit);
+        return false;
+    }
+    same(n, r.call, &out, &want, &bytes, &left)
+}
+
+// Refusals are numbered 1 to 14.
+fn class_known(class: u64) -> bool {
+    match class {
+        0..=2 => true,
+        17..=30 => true,
+        _ => false,
+    }
+}
+
+// Whether a record has a call and a class that there is, fits, and ends where its length says.
+fn well_formed(s: &[u8], r: Record, last: usize) -> bool {
+    let mut words = list::untouched();
+    let mut want = list::untouched();
+    let mut left = list::no_bytes();
+    if !call_known(r.call) {
+        return false;
+    }
+    if !class_known(r.class) {
+        return false;
+    }
+    if 32 < r.len {
+        return false;
+    }
+    if r.ends == 0 {
+        return false;
+    }
+    if 65536 < r.ends {
+        return false;
+    }
+    let w = list::take_words(s, r.numbers, &mut words);
+    if !stops_fit(s, r, w.next) {
+        return false;
+    }
+    last == expected(s, r, w.next, &mut want, &mut left)
+}
+
+// The calls of a record, one for each end that it stands for.
+fn ends(s: &[u8], r: Record, counts: &mut [u64; 241]) {
+    let times = r.ends;
+    let mut i: usize = 0;
+    while i < times {
+        let n = counted(counts, 240);
+        let right = answers(s, r, i as u64, n);
+        count(counts, r.call, r.class, right);
+        i += 1;
+    }
+}
+
+// The record from first to last, unless it is malformed.
+fn replayed(s: &[u8], first: usize, last: usize, counts: &mut [u64; 241]) -> bool {
+    let r = list::take_record(s, first);
+    if !well_formed(s, r, last) {
+        return false;
+    }
+    ends(s, r, counts);
+    true
+}
+
+// ---- the list
+
+// Whether the list was well-formed to its end, and the byte that it was taken to.
+struct Ended {
+    whole: bool,
+    at: usize,
+}
+
+// Replays the records up to that of length 0, which has to be the list's last byte.
+fn replay(s: &[u8], counts: &mut [u64; 241]) -> Ended {
+    let mut at: usize = 0;
+    while at < s.len() {
+        let length = list::take(s, at);
+        let first = length.next;
+        let last = list::ahead(first, length.value);
+        if last <= at {
+            return Ended { whole: false, at };
+        }
+        if s.len() < last {
+            return Ended { whole: false, at };
+        }
+        if length.value == 0 {
+            return Ended {
+                whole: last == s.len(),
+                at: last,
+            };
+        }
+        if !replayed(s, first, last, counts) {
+            return Ended { whole: false, at };
+        }
+        at = last;
+    }
+    Ended { whole: false, at }
+}
+
+fn rows(counts: &[u64; 241]) {
+    let mut call: u64 = 0;
+    while call < 48 {
+        row(counts, call);
+        call += 1;
+    }
+}
+
+fn main() {
+    let mut counts = [0u64; 241];
+    let mut room = [0u8; 327680];
+    let n = io::read_full(STDIN_FILENO, &mut room);
+    let ended = replay(&room[..n], &mut counts);
+    rows(&counts);
+    if !ended.whole {
+        text(b"MALFORMED list, at byte");
+        digits(ended.at as u64);
+        text(b"\n");
+    }
+    io::print_decimal(STDOUT_FILENO, counted(&counts, 240));
+    text(b" cases,");
+    digits(different(&counts));
+    text(b" differences\n");
+}
