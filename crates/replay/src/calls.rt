@@ -2,7 +2,7 @@
 use crate::list::Record;
 use tetra_mac::access;
 use tetra_mac::assign;
-use tetra_mac::bits;
+use tetra_mac::bitbuffer;
 use tetra_mac::channel_allocation;
 use tetra_mac::data;
 use tetra_mac::resource;
@@ -71,9 +71,9 @@ fn bit(
     let a = word(words, 0);
     let b = word(words, 1);
     match call {
-        32 => bits::tetra_read_bits(s, start, pos, end, a as usize, out),
-        33 => bits::tetra_peek_bits(s, start, pos, end, offset(a), b as usize, out),
-        34 => bits::tetra_write_bits(s, start, pos, end, a, b as usize, out),
+        32 => bitbuffer::tetra_read_bits(s, start, pos, end, a as usize, out),
+        33 => bitbuffer::tetra_peek_bits(s, start, pos, end, offset(a), b as usize, out),
+        34 => bitbuffer::tetra_write_bits(s, start, pos, end, a, b as usize, out),
         _ => MALFORMED,
     }
 }

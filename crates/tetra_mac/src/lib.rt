@@ -3,7 +3,7 @@
 pub mod access;
 mod address;
 pub mod assign;
-pub mod bits;
+pub mod bitbuffer;
 pub mod channel_allocation;
 pub mod data;
 mod record;

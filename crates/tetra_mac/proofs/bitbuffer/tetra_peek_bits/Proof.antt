@@ -3,8 +3,8 @@ use borrow.Author.Needs.{needs}
 use mir.Facts.{toZ-ofZ}
 use Rattle.tetra_mac.specs.Laws.Bits.{peek-bits-bit}
 use Rattle.tetra_mac.specs.Laws.Reply.{read-no-room, read-replied}
-use Rattle.tetra_mac.proofs.bits.tetra_peek_bits.Statement.{statement}
-use Rattle.tetra_mac.proofs.bits.tetra_peek_bits.Tie as tie
+use Rattle.tetra_mac.proofs.bitbuffer.tetra_peek_bits.Statement.{statement}
+use Rattle.tetra_mac.proofs.bitbuffer.tetra_peek_bits.Tie as tie
 
 bits-reply-requires : tie.Need-bits-reply-requires
 bits-reply-requires c κs = (search needs, rw (c .before .peek-bits-posoffset .ensures) (peek-bits-bit _ _ _ _))

@@ -1,7 +1,7 @@
 use borrow.Author.Needs.{needs}
 use Rattle.tetra_mac.specs.Laws.Reply.{write-no-room, write-replied}
-use Rattle.tetra_mac.proofs.bits.tetra_write_bits.Statement.{statement}
-use Rattle.tetra_mac.proofs.bits.tetra_write_bits.Tie as tie
+use Rattle.tetra_mac.proofs.bitbuffer.tetra_write_bits.Statement.{statement}
+use Rattle.tetra_mac.proofs.bitbuffer.tetra_write_bits.Tie as tie
 
 returns-2 : tie.Need-returns-2
 returns-2 c =

@@ -2,8 +2,8 @@ use mathlib.Core.Path.{refl}
 use borrow.Author.Needs.{needs}
 use Rattle.tetra_mac.specs.Laws.Bits.{read-bits-bit}
 use Rattle.tetra_mac.specs.Laws.Reply.{read-no-room, read-replied}
-use Rattle.tetra_mac.proofs.bits.tetra_read_bits.Statement.{statement}
-use Rattle.tetra_mac.proofs.bits.tetra_read_bits.Tie as tie
+use Rattle.tetra_mac.proofs.bitbuffer.tetra_read_bits.Statement.{statement}
+use Rattle.tetra_mac.proofs.bitbuffer.tetra_read_bits.Tie as tie
 
 bits-reply-requires : tie.Need-bits-reply-requires
 bits-reply-requires c κs = (search needs, rw (c .before .read-bits .ensures) (read-bits-bit _ _ _))

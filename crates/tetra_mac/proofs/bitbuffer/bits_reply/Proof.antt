@@ -1,6 +1,6 @@
 use borrow.Author.Needs.{needs}
-use Rattle.tetra_mac.proofs.bits.bits_reply.Statement.{statement}
-use Rattle.tetra_mac.proofs.bits.bits_reply.Tie as tie
+use Rattle.tetra_mac.proofs.bitbuffer.bits_reply.Statement.{statement}
+use Rattle.tetra_mac.proofs.bitbuffer.bits_reply.Tie as tie
 
 deny-requires : tie.Need-deny-requires
 deny-requires c κs =
