@@ -40,10 +40,9 @@ fn byte_replaced(b: u8, k: usize, m: usize, v: u64) -> u8
     ensures { λ r. ⌜ r ≡ patch b k m v ⌝ }
 {
     let wide = b as u64;
-    let top = (wide >> (k + m)) << (k + m);
-    let mid = (v & mask(k)) << m;
-    let low = wide & mask(m);
-    (top | (mid | low)) as u8
+    let ones = mask(k);
+    let old = wide & (ones << m);
+    ((wide - old) + ((v & ones) << m)) as u8
 }
 
 // The n bits of s from pos on, as a number.

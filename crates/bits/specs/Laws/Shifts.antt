@@ -1,10 +1,10 @@
 -- What the code's shifts and masks are in plain arithmetic. `a << k` is `a * 2 ^ k % 2 ^ 64`, `a >> k` is `a / 2 ^ k`.
 use Prim.Native.Nat.{ℕ, _+_, _-_, _*_, _/_, _%_, _^_, _≤_, _<_}
 use mathlib.Core.Path.{_≡_, sym, ap, _∙_}
-use native.Mathlib.Nat.{add-comm, add-mul, mul-assoc, one-mul, mod-lt, mod-eq-of-lt, lt-of-le-of-lt, div-mul-le-self}
+use native.Mathlib.Nat.{add-comm, add-mul, mul-assoc, one-mul, mod-lt, mod-mod, mod-eq-of-lt, lt-of-le-of-lt, div-mul-le-self}
 use native.Mathlib.Omega.{arith}
-use lib.Bits.{bitAnd, bitOr, and-mask, or-shifted}
-use lib.Pow.{shl-lt, pow-pos, pow-lt, pow-add, shl-exact, field, shr-shr, shl-shr, split, mod-pow-add, shr-lt}
+use lib.Bits.{bitAnd, bitOr, and-mask, and-high, or-shifted}
+use lib.Pow.{high-ones, ones-lt, shl-lt, pow-pos, pow-lt, pow-add, shl-exact, field, shr-shr, shl-shr, split, mod-pow-add, shr-lt}
 use lib.Arith.{digits-lt}
 use Rattle.bits.specs.Bits.{patch}
 
@@ -16,23 +16,6 @@ one-shl k h = ap (λ (x : ℕ). x % 2 ^ 64) (one-mul (2 ^ k)) ∙ mod-eq-of-lt (
 pub push-is : (acc k x : ℕ) → x < 2 ^ k → acc * 2 ^ k + x < 2 ^ 64 → bitOr ((acc * 2 ^ k) % 2 ^ 64) x ≡ acc * 2 ^ k + x
 push-is acc k x hx h =
     ap (λ (y : ℕ). bitOr y x) (mod-eq-of-lt {n = acc * 2 ^ k} {m = 2 ^ 64} (omega arith)) ∙ or-shifted acc k x hx
-
--- the byte put together from three parts
-pub patch-is : (b k m v r t : ℕ) → b < 2 ^ 64 → k + m ≤ 64 → r ≡ 2 ^ k - 1 → t ≡ 2 ^ m - 1
-    → bitOr ((b / 2 ^ (k + m) * 2 ^ (k + m)) % 2 ^ 64) (bitOr ((bitAnd v r * 2 ^ m) % 2 ^ 64) (bitAnd b t)) ≡ patch b k m v
-unfolding patch
-patch-is b k m v r t hb h er et =
-    rw (
-      er,
-      et,
-      and-mask v k,
-      and-mask b m,
-      shl-exact {a = v % 2 ^ k} k m 64 (mod-lt v (pow-pos k)) h,
-      mod-eq-of-lt {n = b / 2 ^ (k + m) * 2 ^ (k + m)} {m = 2 ^ 64} (lt-of-le-of-lt (div-mul-le-self b (2 ^ (k + m))) hb),
-      or-shifted (v % 2 ^ k) m (b % 2 ^ m) (mod-lt b (pow-pos m)),
-    )
-    (or-shifted (b / 2 ^ (k + m)) (k + m) (v % 2 ^ k * 2 ^ m + b % 2 ^ m)
-    (rw (pow-add 2 k m) (digits-lt (mod-lt v (pow-pos k)) (mod-lt b (pow-pos m)))))
 
 -- (a << (k + n)) | (b << k)
 pub join-is : (a b n k : ℕ) → b < 2 ^ n → bitOr (a * 2 ^ (k + n)) (b * 2 ^ k) ≡ (a * 2 ^ n + b) * 2 ^ k
@@ -78,3 +61,21 @@ replaced-lt x o n m v e h =
 
     below : x < 2 ^ (o + (n + m))
     below = rw e h
+
+-- the same with masks: b - (b & (ones << m)) + ((v & ones) << m)
+pub masked-is : (b k m v r : ℕ) → k + m ≤ 64 → r ≡ 2 ^ k - 1
+    → b - bitAnd b ((r * 2 ^ m) % 2 ^ 64) + (bitAnd v r * 2 ^ m) % 2 ^ 64 ≡ patch b k m v
+masked-is b k m v r h er =
+    rw (
+      er,
+      and-mask v k,
+      shl-exact {a = 2 ^ k - 1} k m 64 (ones-lt k) h,
+      shl-exact {a = v % 2 ^ k} k m 64 (mod-lt v (pow-pos k)) h,
+      ← high-ones k m,
+      and-high b k m,
+      replaced-is b k m (v % 2 ^ k) (mod-lt v (pow-pos k)),
+    )
+    same
+  where
+    same : patch b k m (v % 2 ^ k) ≡ patch b k m v
+    same = unfold patch in rw (mod-mod v (2 ^ k))
