@@ -2,4 +2,3 @@ pub mod AccessField
 pub mod Usage
 pub mod AccessAssign
 pub mod Laws
-pub mod Examples

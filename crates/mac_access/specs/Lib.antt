@@ -1,3 +1,2 @@
 pub mod MacAccess
 pub mod Laws
-pub mod Examples

@@ -8,4 +8,3 @@ pub mod Altered
 pub mod Demand3
 pub mod Resource
 pub mod Step
-pub mod Cases

@@ -1,3 +1,2 @@
 pub mod MacData
 pub mod Laws
-pub mod Examples

@@ -4,4 +4,3 @@ pub mod Fixed
 pub mod Elements
 pub mod MacResource
 pub mod Laws
-pub mod Examples

@@ -1,0 +1,373 @@
+-- Document 01, "Bits to hold against": one row for each case, and one for the listing's block. A row has what the definitions give that the
+-- contracts cite, and what the case says. `proofs/Cases.antt` computes every row.
+use mathlib.Core.Bool.{Bool, true, false}
+use mathlib.Core.List.{List, [], _∷_, _++_}
+use Prim.Native.Nat.{ℕ}
+use lib.ListN.{replicate}
+use Rattle.tetra_core.specs.declared.address.SsiType.{SsiType}
+use Rattle.tetra_core.specs.declared.address.TetraAddress.{TetraAddress}
+use Rattle.tetra_core.specs.declared.address.UplinkAddress.{UplinkAddress}
+use Rattle.tetra_core.specs.declared.bitbuffer.Cursor.{Cursor}
+use Rattle.tetra_core.specs.declared.bitbuffer.Moved.{Moved}
+use Rattle.tetra_core.specs.declared.bitbuffer.Outcome.{Outcome}
+use Rattle.tetra_fields.specs.declared.enums.alloc_type.ChanAllocType.{ChanAllocType}
+use Rattle.tetra_fields.specs.declared.enums.ul_dl_assignment.UlDlAssignment.{UlDlAssignment}
+use Rattle.tetra_fields.specs.declared.fields.channel_allocation.Frame18Pattern.{Frame18Pattern}
+use Rattle.tetra_fields.specs.declared.fields.channel_allocation.ChanAllocElement.{ChanAllocElement}
+use Rattle.tetra_fields.specs.declared.fields.channel_allocation.ChanAllocLen.{ChanAllocLen}
+use Rattle.tetra_fields.specs.declared.fields.channel_allocation.ChannelAllocationAnswer.{ChannelAllocationAnswer}
+use Rattle.tetra_fields.specs.declared.fields.channel_allocation.ChannelAllocationRead.{ChannelAllocationRead}
+use Rattle.tetra_fields.specs.ChannelAllocation.{computeLen, channelAllocationAt, channelAllocationWrite, channelAllocationWritten}
+use Rattle.access_assign.specs.declared.enums.access_assign_dl_usage.AccessAssignDlUsage.{AccessAssignDlUsage}
+use Rattle.access_assign.specs.declared.enums.access_assign_ul_usage.AccessAssignUlUsage.{AccessAssignUlUsage}
+use Rattle.access_assign.specs.declared.access_assign.AccessAssign.{AccessAssign}
+use Rattle.access_assign.specs.declared.access_assign.AccessAssignAnswer.{AccessAssignAnswer}
+use Rattle.access_assign.specs.declared.access_assign.AccessAssignRead.{AccessAssignRead}
+use Rattle.access_assign.specs.AccessAssign.{defaultAccessAssign, accessAssignAt, accessAssignWrite, accessAssignWritten}
+use Rattle.mac_access.specs.declared.mac_access.MacAccess.{MacAccess}
+use Rattle.mac_access.specs.declared.mac_access.MacAccessOption.{MacAccessOption}
+use Rattle.mac_access.specs.declared.mac_access.MacAccessAnswer.{MacAccessAnswer}
+use Rattle.mac_access.specs.declared.mac_access.MacAccessRead.{MacAccessRead}
+use Rattle.mac_access.specs.MacAccess.{macAccessAt, macAccessWrite, macAccessWritten}
+use Rattle.mac_data.specs.declared.mac_data.MacData.{MacData}
+use Rattle.mac_data.specs.declared.mac_data.MacDataOption.{MacDataOption}
+use Rattle.mac_data.specs.declared.mac_data.MacDataAnswer.{MacDataAnswer}
+use Rattle.mac_data.specs.declared.mac_data.MacDataRead.{MacDataRead}
+use Rattle.mac_data.specs.MacData.{macDataAt, macDataWrite, macDataWritten}
+use Rattle.mac_resource.specs.declared.elements.PowerControl.{PowerControl}
+use Rattle.mac_resource.specs.declared.elements.SlotGranting.{SlotGranting}
+use Rattle.mac_resource.specs.declared.elements.ChannelAllocation.{ChannelAllocation}
+use Rattle.mac_resource.specs.declared.mac_resource.MacResource.{MacResource}
+use Rattle.mac_resource.specs.declared.mac_resource.MacResourceAnswer.{MacResourceAnswer}
+use Rattle.mac_resource.specs.declared.mac_resource.MacResourceRead.{MacResourceRead}
+use Rattle.mac_resource.specs.declared.mac_resource.HeaderLen.{HeaderLen}
+use Rattle.mac_resource.specs.declared.mac_resource.LenAndFill.{LenAndFill}
+use Rattle.mac_resource.specs.MacResource.{nullPdu, macResourceAt, macResourceWrite, macResourceWritten, computeHeaderLen, updateLenAndFillInd}
+use Rattle.mac_block.specs.declared.reader.BlockEntry.{BlockEntry}
+use Rattle.mac_block.specs.declared.reader.PduEnd.{PduEnd}
+use Rattle.mac_block.specs.declared.reader.StepAnswer.{StepAnswer}
+use Rattle.mac_block.specs.declared.writer.LengthIndication.{LengthIndication}
+use Rattle.mac_block.specs.declared.writer.Written.{Written}
+use Rattle.mac_block.specs.Read.{Reading}
+use Rattle.mac_block.specs.Walk.{Pdu, Entry, Walk, step, walk}
+use Rattle.mac_block.specs.Writer.{Writer, finishTo, finishAnswer, addTo, addAnswer}
+use Rattle.mac_block.specs.Run.{Call, start, run}
+use Rattle.mac_block.specs.Step.{stepAnswer}
+use Rattle.mac_block.specs.Resource.{resourceCodec}
+
+-- what a call answers
+pub data Answer : Type 0 where
+  -- a header or an element that is written, and the bytes that are left
+  Wrote : Moved → (bytes : List ℕ) → Answer
+  -- one that is read
+  ReadAllocation : ChannelAllocationRead → Answer
+  ReadAssign : AccessAssignRead → Answer
+  ReadAccess : MacAccessRead → Answer
+  ReadData : MacDataRead → Answer
+  ReadResource : MacResourceRead → Answer
+  -- its length: `compute_len`, `compute_header_len`, `update_len_and_fill_ind`
+  AllocationLen : ChanAllocLen → Answer
+  HeaderBits : HeaderLen → Answer
+  Octets : LenAndFill → Answer
+  -- the adds and finishes of a block, each with the writer's bit after it, the bytes that are left, and the walk of the block then
+  Block : List Written → (bytes : List ℕ) → Walk MacResource → Answer
+  -- one step in a block
+  Step : StepAnswer → Answer
+
+pub record Row : Type 0 where
+  pub computed : List Answer
+  pub stated : List Answer
+
+-- ---- headers and elements
+
+-- the cursor at the bit p of a window of n bits
+abbrev pub window : (p n : ℕ) → Cursor
+window p n = record { start = 0; pos = p; end = n }
+
+-- "Done", which leaves the cursor at p
+abbrev pub wrote : (p n : ℕ) → List ℕ → Answer
+wrote p n bytes = Answer.Wrote (record { cursor = window p n; answer = Outcome.Done }) bytes
+
+abbrev pub octets : (octets fill : ℕ) → Bool → Answer
+octets o f flag = Answer.Octets (LenAndFill.Counted (record { 0 = o }) (record { 0 = f }) flag)
+
+-- ---- blocks: the calls on one, as its contracts have them
+
+unfoldable pub answers : (n : ℕ) → List (Call MacResource) → Writer → List Written
+answers n [] w = []
+answers n (Call.add a ∷ cs) w = addAnswer resourceCodec n w a ∷ answers n cs (addTo resourceCodec n w a)
+answers n (Call.finish ∷ cs) w = finishAnswer n w ∷ answers n cs (finishTo n w)
+
+-- a block of n bits in these bytes, after these calls from bit 0 on
+unfoldable pub block : (n : ℕ) → List ℕ → List (Call MacResource) → Answer
+block n bytes calls =
+    let left = run resourceCodec n calls (start bytes) in
+    Answer.Block (answers n calls (start bytes)) (left .bytes) (walk resourceCodec (left .bytes) n)
+
+-- "SSI 1, no elements"
+abbrev pub ssi1 : (length : ℕ) → (fill : Bool) → MacResource
+ssi1 l f =
+    record {
+      «fill_bits» = f;
+      «pos_of_grant» = 0;
+      «encryption_mode» = 0;
+      «random_access_flag» = false;
+      «length_ind» = l;
+      addr = TetraAddress.Ssi SsiType.Ssi 1;
+      «power_control_element» = PowerControl.Without;
+      «slot_granting_element» = SlotGranting.Without;
+      «chan_alloc_element» = ChannelAllocation.Without;
+    }
+
+-- an add of k bits of content, all ones, out of 60 bytes
+abbrev pub adds : LengthIndication → ℕ → Call MacResource
+adds i k = Call.add (record { header = ssi1 0 false; indication = i; content = replicate 60 0xff; bits = k })
+
+abbrev pub counts : ℕ → Call MacResource
+counts k = adds LengthIndication.Counted k
+
+-- a call that is done, or refused, with the writer's bit after it
+abbrev pub done : (bit : ℕ) → Written
+done p = record { bit = p; answer = Outcome.Done }
+
+abbrev pub refused : (bit number : ℕ) → Written
+refused p j = record { bit = p; answer = Outcome.Refused j }
+
+-- the entry of a PDU of s bits with such a header, k ones and f bits of fill
+abbrev pub pdu : (bit s l : ℕ) → (flag : Bool) → (k f : ℕ) → Entry MacResource
+pdu p s l flag k f = record { bit = p; pdu = Pdu.sized s (Reading.read (ssi1 l flag) 43 (replicate k true) f) }
+
+abbrev pub null : (bit : ℕ) → Entry MacResource
+null p = record { bit = p; pdu = Pdu.null 2 }
+
+abbrev pub walked : List (Entry MacResource) → (rest : ℕ) → Walk MacResource
+walked es p = record { entries = es; restAt = p }
+
+-- the bytes of a PDU of 34 octets less 4 bits: its first two, and ones behind the header
+abbrev pub ones : ℕ → ℕ → List ℕ
+ones a b = a ∷ b ∷ 0x00 ∷ 0x00 ∷ 0x01 ∷ 0x1f ∷ (replicate 27 0xff ++ (0xf0 ∷ []))
+
+-- ---- the rows
+
+-- "Null: 00 10 h."
+abbrev pub case-1 : Row
+case-1 =
+    record {
+      computed =
+          Answer.Wrote (macResourceWrite (0xff ∷ 0xff ∷ []) (window 0 16) nullPdu) (macResourceWritten (0xff ∷ 0xff ∷ []) (window 0 16) nullPdu)
+          ∷ Answer.ReadResource (macResourceAt (0x00 ∷ 0x10 ∷ []) (window 0 16))
+          ∷ block 16 (0xff ∷ 0xff ∷ []) (Call.finish ∷ [])
+          ∷ [];
+      stated =
+          wrote 16 16 (0x00 ∷ 0x10 ∷ [])
+          ∷ Answer.ReadResource (record { cursor = window 16 16; answer = MacResourceAnswer.Read nullPdu })
+          ∷ Answer.Block (done 16 ∷ []) (0x00 ∷ 0x10 ∷ []) (walked (null 0 ∷ []) 16)
+          ∷ [];
+    }
+
+-- "SSI 1, no elements, no content: 43 bits, 6 octets, 5 fill: 20 31 00 00 01 10 h."
+abbrev pub case-2 : Row
+case-2 =
+    record {
+      computed =
+          Answer.HeaderBits (computeHeaderLen (ssi1 0 false))
+          ∷ Answer.Octets (updateLenAndFillInd (ssi1 0 false) 0)
+          ∷ block 48 (replicate 6 0xff) (counts 0 ∷ [])
+          ∷ Answer.ReadResource (macResourceAt (0x20 ∷ 0x31 ∷ 0x00 ∷ 0x00 ∷ 0x01 ∷ 0x10 ∷ []) (window 0 48))
+          ∷ [];
+      stated =
+          Answer.HeaderBits (HeaderLen.Len (record { 0 = 43 }))
+          ∷ octets 6 5 true
+          ∷ Answer.Block (done 48 ∷ []) (0x20 ∷ 0x31 ∷ 0x00 ∷ 0x00 ∷ 0x01 ∷ 0x10 ∷ []) (walked (pdu 0 48 6 true 0 5 ∷ []) 48)
+          ∷ Answer.ReadResource (record { cursor = window 43 48; answer = MacResourceAnswer.Read (ssi1 6 true) })
+          ∷ [];
+    }
+
+-- "Content 5: 6 octets, fill 0; content 6: 7 octets, fill 7."
+abbrev pub case-3 : Row
+case-3 =
+    record {
+      computed =
+          Answer.Octets (updateLenAndFillInd (ssi1 0 false) 5)
+          ∷ Answer.Octets (updateLenAndFillInd (ssi1 0 false) 6)
+          ∷ block 104 (replicate 13 0) (counts 5 ∷ counts 6 ∷ [])
+          ∷ [];
+      stated =
+          octets 6 0 false
+          ∷ octets 7 7 true
+          ∷ Answer.Block (done 48 ∷ done 104 ∷ [])
+          (0x00 ∷ 0x31 ∷ 0x00 ∷ 0x00 ∷ 0x01 ∷ 0x1f ∷ 0x20 ∷ 0x39 ∷ 0x00 ∷ 0x00 ∷ 0x01 ∷ 0x1f ∷ 0xc0 ∷ [])
+          (walked (pdu 0 48 6 false 5 0 ∷ pdu 48 56 7 true 6 7 ∷ []) 104)
+          ∷ [];
+    }
+
+-- "Replace, slot 1, both, carrier 1, pattern 1: 23 00 04 80 h, 25 bits."
+abbrev pub replace : ChanAllocElement
+replace =
+    record {
+      «alloc_type» = ChanAllocType.Replace;
+      «ts_assigned» = record { ts1 = true; ts2 = false; ts3 = false; ts4 = false };
+      «ul_dl_assigned» = UlDlAssignment.Both;
+      «clch_permission» = false;
+      «cell_change_flag» = false;
+      «carrier_num» = 1;
+      «mon_pattern» = 1;
+      «frame18_mon_pattern» = Frame18Pattern.Without;
+    }
+
+abbrev pub case-4 : Row
+case-4 =
+    record {
+      computed =
+          Answer.AllocationLen (computeLen replace)
+          ∷ Answer.Wrote (channelAllocationWrite (replicate 4 0) (window 0 32) replace) (channelAllocationWritten (replicate 4 0) (window 0 32) replace)
+          ∷ Answer.ReadAllocation (channelAllocationAt (0x23 ∷ 0x00 ∷ 0x04 ∷ 0x80 ∷ []) (window 0 32))
+          ∷ [];
+      stated =
+          Answer.AllocationLen (ChanAllocLen.Len (record { 0 = 25 }))
+          ∷ wrote 25 32 (0x23 ∷ 0x00 ∷ 0x04 ∷ 0x80 ∷ [])
+          ∷ Answer.ReadAllocation (record { cursor = window 25 32; answer = ChannelAllocationAnswer.Read replace })
+          ∷ [];
+    }
+
+-- "`AccessAssign` default: 06 18 h, 14 bits."
+abbrev pub case-5 : Row
+case-5 =
+    record {
+      computed =
+          Answer.Wrote (accessAssignWrite (0 ∷ 0 ∷ []) (window 0 16) defaultAccessAssign) (accessAssignWritten (0 ∷ 0 ∷ []) (window 0 16) defaultAccessAssign)
+          ∷ Answer.ReadAssign (accessAssignAt (0x06 ∷ 0x18 ∷ []) (window 0 16))
+          ∷ [];
+      stated =
+          wrote 14 16 (0x06 ∷ 0x18 ∷ [])
+          ∷ Answer.ReadAssign (record { cursor = window 14 16; answer = AccessAssignAnswer.Read defaultAccessAssign })
+          ∷ [];
+    }
+
+-- "Header 3, downlink 4, uplink 0: C4 00 h; uplink 2 refused 7 at 8."
+abbrev pub traffic4 : AccessAssign
+traffic4 = AccessAssign.DownlinkDefinedUplinkDefined (AccessAssignDlUsage.Traffic 4) AccessAssignUlUsage.Unallocated
+
+abbrev pub case-6 : Row
+case-6 =
+    record {
+      computed =
+          Answer.Wrote (accessAssignWrite (0 ∷ 0 ∷ []) (window 0 16) traffic4) (accessAssignWritten (0 ∷ 0 ∷ []) (window 0 16) traffic4)
+          ∷ Answer.ReadAssign (accessAssignAt (0xc4 ∷ 0x00 ∷ []) (window 0 16))
+          ∷ Answer.ReadAssign (accessAssignAt (0xc4 ∷ 0x08 ∷ []) (window 0 16))
+          ∷ [];
+      stated =
+          wrote 14 16 (0xc4 ∷ 0x00 ∷ [])
+          ∷ Answer.ReadAssign (record { cursor = window 14 16; answer = AccessAssignAnswer.Read traffic4 })
+          ∷ Answer.ReadAssign (record { cursor = window 0 16; answer = AccessAssignAnswer.Refused (record { number = 7; bit = 8 }) })
+          ∷ [];
+    }
+
+-- "MAC-ACCESS, SSI 1, no options: 00 00 00 08 h, 30 bits."
+abbrev pub access1 : MacAccess
+access1 = record { «fill_bits» = false; encrypted = false; addr = UplinkAddress.Ssi SsiType.Issi 1; option = MacAccessOption.Without }
+
+abbrev pub case-7 : Row
+case-7 =
+    record {
+      computed =
+          Answer.Wrote (macAccessWrite (replicate 4 0) (window 0 32) access1) (macAccessWritten (replicate 4 0) (window 0 32) access1)
+          ∷ Answer.ReadAccess (macAccessAt (0x00 ∷ 0x00 ∷ 0x00 ∷ 0x08 ∷ []) (window 0 32))
+          ∷ [];
+      stated =
+          wrote 30 32 (0x00 ∷ 0x00 ∷ 0x00 ∷ 0x08 ∷ [])
+          ∷ Answer.ReadAccess (record { cursor = window 30 32; answer = MacAccessAnswer.Read access1 })
+          ∷ [];
+    }
+
+-- "MAC-DATA, label 1, length 5: 04 01 0A h, 23 bits."
+abbrev pub data1 : MacData
+data1 = record { «fill_bits» = false; encrypted = false; addr = UplinkAddress.EventLabel 1; option = MacDataOption.LengthInd 5 }
+
+abbrev pub case-8 : Row
+case-8 =
+    record {
+      computed =
+          Answer.Wrote (macDataWrite (replicate 3 0) (window 0 24) data1) (macDataWritten (replicate 3 0) (window 0 24) data1)
+          ∷ Answer.ReadData (macDataAt (0x04 ∷ 0x01 ∷ 0x0A ∷ []) (window 0 24))
+          ∷ [];
+      stated =
+          wrote 23 24 (0x04 ∷ 0x01 ∷ 0x0A ∷ [])
+          ∷ Answer.ReadData (record { cursor = window 23 24; answer = MacDataAnswer.Read data1 })
+          ∷ [];
+    }
+
+-- "One PDU of 268 bits in 268: length 34, fill clear; 267: fill one bit."
+abbrev pub case-9 : Row
+case-9 =
+    record {
+      computed =
+          block 268 (replicate 34 0) (counts 225 ∷ Call.finish ∷ [])
+          ∷ block 268 (replicate 34 0) (counts 224 ∷ Call.finish ∷ [])
+          ∷ [];
+      stated =
+          Answer.Block (done 268 ∷ done 268 ∷ []) (ones 0x01 0x11) (walked (pdu 0 268 34 false 225 0 ∷ []) 268)
+          ∷ Answer.Block (done 268 ∷ done 268 ∷ []) (ones 0x21 0x11) (walked (pdu 0 268 34 true 224 1 ∷ []) 268)
+          ∷ [];
+    }
+
+-- "Read in 268: length 34 accepted, 35 refused 8."
+abbrev pub case-10 : Row
+case-10 =
+    record {
+      computed =
+          Answer.Step (stepAnswer (step resourceCodec (ones 0x01 0x11) 268 0))
+          ∷ Answer.Step (stepAnswer (step resourceCodec (ones 0x01 0x19) 268 0))
+          ∷ [];
+      stated =
+          Answer.Step
+          (StepAnswer.Entry
+          (BlockEntry.Resource
+          (record { bit = 0; end = 268; header = ssi1 34 false; «content_start» = 43; «content_end» = 268 })))
+          ∷ Answer.Step (StepAnswer.Entry (BlockEntry.Refused (record { bit = 0; end = PduEnd.Unknown; refusal = record { number = 8; bit = 7 } })))
+          ∷ [];
+    }
+
+-- "488 bits give 61 octets; 489 refused 8."
+abbrev pub case-11 : Row
+case-11 =
+    record {
+      computed =
+          Answer.Octets (updateLenAndFillInd (ssi1 0 false) 445)
+          ∷ Answer.Octets (updateLenAndFillInd (ssi1 0 false) 446)
+          ∷ block 488 (replicate 61 0) (counts 446 ∷ counts 445 ∷ [])
+          ∷ [];
+      stated =
+          octets 61 0 false
+          ∷ Answer.Octets (LenAndFill.Refused 8)
+          ∷ Answer.Block (refused 0 8 ∷ done 488 ∷ [])
+          (0x01 ∷ 0xe9 ∷ 0x00 ∷ 0x00 ∷ 0x01 ∷ 0x1f ∷ replicate 55 0xff)
+          (walked (pdu 0 488 61 false 445 0 ∷ []) 488)
+          ∷ [];
+    }
+
+-- "For 124 bits, 20 31 00 00 01 10 00 10 80 then seven 00 h", written over ones: adds refused 8, 2 and 13, an add after the finish, and a second
+-- finish are among the calls, and the four bits past 124 keep their values
+abbrev pub listing : Row
+listing =
+    record {
+      computed =
+          block 124 (replicate 16 0xff)
+          (counts 0
+          ∷ counts 446
+          ∷ adds LengthIndication.Mark62 34
+          ∷ adds LengthIndication.Mark63 481
+          ∷ Call.finish
+          ∷ adds LengthIndication.Mark63 0
+          ∷ Call.finish
+          ∷ [])
+          ∷ [];
+      stated =
+          Answer.Block (done 48 ∷ refused 48 8 ∷ refused 48 2 ∷ refused 48 13 ∷ done 124 ∷ refused 124 2 ∷ done 124 ∷ [])
+          (0x20 ∷ 0x31 ∷ 0x00 ∷ 0x00 ∷ 0x01 ∷ 0x10 ∷ 0x00 ∷ 0x10 ∷ 0x80 ∷ (replicate 6 0x00 ++ (0x0f ∷ [])))
+          (walked (pdu 0 48 6 true 0 5 ∷ null 48 ∷ []) 64)
+          ∷ [];
+    }
+
+abbrev pub cases : List Row
+cases = case-1 ∷ case-2 ∷ case-3 ∷ case-4 ∷ case-5 ∷ case-6 ∷ case-7 ∷ case-8 ∷ case-9 ∷ case-10 ∷ case-11 ∷ listing ∷ []
