@@ -47,10 +47,11 @@ fn resource_line(pdu: ResourcePdu) -> ResourceLine
     ensures { λ r. ⌜ r ≡ resourceLine pdu ⌝ }
 {
     let header = pdu.header;
+    let addr = header.addr;
     ResourceLine {
         start: pdu.bit,
         pdu_bits: pdu.end - pdu.bit,
-        addr: header.addr,
+        addr,
         content_bits: pdu.content_end - pdu.content_start,
     }
 }
