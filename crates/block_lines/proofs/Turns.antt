@@ -16,7 +16,7 @@ use Rattle.mac_block.specs.declared.reader.BlockEntry.{BlockEntry}
 use Rattle.mac_block.specs.declared.reader.StepAnswer.{StepAnswer}
 use Rattle.mac_block.specs.Frame.{frame}
 use Rattle.mac_block.specs.Read.{Reading}
-use Rattle.mac_block.specs.Walk.{goodBlock, Pdu, Step, stepOf, pduOf, firstPdu, stepAt, step, follow, goOn, walkBy, walkFrom}
+use Rattle.mac_block.specs.Walk.{goodBlock, Pdu, Step, stepOf, pduOf, firstPdu, stepAt, step, follow, goOn, walkBy, walkFrom, walk}
 use Rattle.mac_block.specs.Resource.{resourceCodec}
 use Rattle.mac_block.specs.Step.{sizedEntry, entryOf, stepAnswer}
 use Rattle.mac_block.specs.Demand3.{Holds}
@@ -26,7 +26,7 @@ use Rattle.mac_block.proofs.Blocks.{held, length-block}
 use Rattle.mac_block.proofs.Stepping.{step-there}
 use Rattle.mac_block.proofs.Demand3Resource.{demand-3-of-blocks}
 use Rattle.block_lines.specs.declared.line.Turn.{Turn}
-use Rattle.block_lines.specs.Line.{readLine, pduTurn, turnOf, resourceLine, endTurn, refusedTurn, Listable, entryTurn}
+use Rattle.block_lines.specs.Line.{readLine, pduTurn, turnOf, restBits, resourceLine, endTurn, refusedTurn, Listable, entryTurn}
 
 -- ---- an entry as the reader answers it has the line and the turn of the definition's entry
 
@@ -98,6 +98,10 @@ answered-refused p (Step.entry x) z = absurd (let w : _≡_ {A = ℕ} 0 1 = cc i
 -- the bit at which the rest begins of the walk from p
 abbrev pub restFrom : List ℕ → (n p : ℕ) → ℕ
 restFrom v n p = walkFrom resourceCodec v n p .restAt
+
+pub rest-is : (v : List ℕ) (n : ℕ) {q : ℕ} → q ≡ restFrom v n 0 → n - q ≡ restBits v n
+unfolding restBits walk
+rest-is v n e = ap (λ i. n - i) e
 
 unfoldable pub Follows : List ℕ → (n p : ℕ) → Turn → Type 0
 Follows v n p (Turn.On l q) = (restFrom v n p ≡ restFrom v n q) × (p < q) × (q ≤ n)

@@ -1,4 +1,5 @@
 -- The line of each entry of a block's walk, and where the walk goes on behind it. Document 01, "A listing program" and "Block".
+use mathlib.Core.List.{List}
 use Prim.Native.Nat.{ℕ, _+_, _-_, _≤_}
 use lib.ListN.{length}
 use Rattle.tetra_core.specs.declared.refusal.Refusal.{Refusal}
@@ -8,7 +9,8 @@ use Rattle.mac_block.specs.declared.reader.RefusedPdu.{RefusedPdu}
 use Rattle.mac_block.specs.declared.reader.PduEnd.{PduEnd}
 use Rattle.mac_block.specs.declared.reader.BlockEntry.{BlockEntry}
 use Rattle.mac_block.specs.Read.{Reading}
-use Rattle.mac_block.specs.Walk.{Pdu, Step}
+use Rattle.mac_block.specs.Walk.{Pdu, Step, walk}
+use Rattle.mac_block.specs.Resource.{resourceCodec}
 use Rattle.mac_block.specs.Step.{refusal}
 use Rattle.block_lines.specs.declared.line.ResourceLine.{ResourceLine}
 use Rattle.block_lines.specs.declared.line.Line.{Line}
@@ -32,6 +34,10 @@ unfoldable pub turnOf : ℕ → Step MacResource → Turn
 turnOf p (Step.refused j o) = Turn.Refused (refusal j o)
 turnOf p Step.end = Turn.Rest p
 turnOf p (Step.entry e) = pduTurn (e .bit) (e .pdu)
+
+-- the number behind `rest`, in a block of n bits in the bytes v
+unfoldable pub restBits : (v : List ℕ) (n : ℕ) → ℕ
+restBits v n = n - walk resourceCodec v n .restAt
 
 -- ---- the same of an entry as the reader answers it
 

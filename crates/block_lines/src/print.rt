@@ -10,9 +10,7 @@ use tetra_core::address::TetraAddress;
 use tetra_core::refusal;
 use tetra_core::refusal::Refusal;
 ghost use mathlib.Core.Path.{_≡_};
-ghost use Prim.Native.Nat.{_≤_};
-ghost use Rattle.mac_block.specs.Walk.{walk};
-ghost use Rattle.mac_block.specs.Resource.{resourceCodec};
+ghost use Rattle.block_lines.specs.Line.{restBits};
 
 fn text(t: &[u8]) {
     io::write_all(STDOUT_FILENO, t);
@@ -81,9 +79,9 @@ fn print_line(l: Line) {
     }
 }
 
-// Prints a line for each entry of a block, and answers the bit at which the rest begins.
+// Prints a line for each entry of a block, and answers how many bits the rest has.
 fn print_entries(block: &[u8], bits: usize) -> usize
-    ensures { λ r. ⌜ (r ≡ walk resourceCodec (now (block .entry)) bits .restAt) × (r ≤ bits) ⌝ }
+    ensures { λ r. ⌜ r ≡ restBits (now (block .entry)) bits ⌝ }
 {
     let mut bit = 0;
     loop {
@@ -94,10 +92,10 @@ fn print_entries(block: &[u8], bits: usize) -> usize
             }
             Turn::Last(l, rest_at) => {
                 print_line(l);
-                return rest_at;
+                return bits - rest_at;
             }
-            Turn::Rest(rest_at) => return rest_at,
-            Turn::Refused(_) => return bit,
+            Turn::Rest(rest_at) => return bits - rest_at,
+            Turn::Refused(_) => return bits - bit,
         }
     }
 }
@@ -119,6 +117,5 @@ pub fn list(block: &[u8], bits: usize) {
         print_no_block();
         return;
     }
-    let rest_at = print_entries(block, bits);
-    rest(bits - rest_at);
+    rest(print_entries(block, bits));
 }

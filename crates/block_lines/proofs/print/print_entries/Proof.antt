@@ -1,10 +1,8 @@
-use mathlib.Core.Path.{_≡_, refl, sym, _∙_}
+use mathlib.Core.Path.{_≡_, sym, _∙_}
 use Prim.Native.Nat.{_-_, _≤_}
 use native.Mathlib.Omega.{arith}
 use borrow.Author.Needs.{needs}
-use Rattle.mac_block.specs.Walk.{walk}
-use Rattle.mac_block.specs.Resource.{resourceCodec}
-use Rattle.block_lines.proofs.Turns.{restFrom, Follows, followed}
+use Rattle.block_lines.proofs.Turns.{restFrom, rest-is, Follows, followed}
 use Rattle.block_lines.proofs.print.print_entries.Statement.{statement}
 use Rattle.block_lines.proofs.print.print_entries.Tie as tie
 
@@ -31,28 +29,47 @@ loop-again c =
     let f = followed _ _ _ (t .before .loop .inv .1) (t .turn-at .ensures) (k .l .given .1) in
     (sym (f .0) ∙ t .before .loop .inv .0, f .2)
 
+sub-result : tie.Need-sub-result Inv-loop μ-loop
+unfolding Follows
+sub-result c =
+    let k = c .before .before in
+    let t = k .before .before in
+    let f = followed _ _ _ (t .before .loop .inv .1) (t .turn-at .ensures) (k .l2 .given .1) in
+    f .1
+
 returns : tie.Need-returns Inv-loop μ-loop
-unfolding Follows walk
+unfolding Follows
 returns c =
     let k = c .before .before in
     let t = k .before .before in
     let f = followed _ _ _ (t .before .loop .inv .1) (t .turn-at .ensures) (k .l2 .given .1) in
-    (sym (f .0) ∙ t .before .loop .inv .0, f .1)
+    rest-is _ _ (sym (f .0) ∙ t .before .loop .inv .0)
+
+sub-result-2 : tie.Need-sub-result-2 Inv-loop μ-loop
+unfolding Follows
+sub-result-2 c =
+    let k = c .before in
+    let t = k .before .before in
+    let f = followed _ _ _ (t .before .loop .inv .1) (t .turn-at .ensures) (k .rest-at .given .1) in
+    f .1
 
 returns-2 : tie.Need-returns-2 Inv-loop μ-loop
-unfolding Follows walk
+unfolding Follows
 returns-2 c =
     let k = c .before in
     let t = k .before .before in
     let f = followed _ _ _ (t .before .loop .inv .1) (t .turn-at .ensures) (k .rest-at .given .1) in
-    (sym (f .0) ∙ t .before .loop .inv .0, f .1)
+    rest-is _ _ (sym (f .0) ∙ t .before .loop .inv .0)
+
+sub-result-3 : tie.Need-sub-result-3 Inv-loop μ-loop
+sub-result-3 c = c .before .before .before .loop .inv .1
 
 returns-3 : tie.Need-returns-3 Inv-loop μ-loop
-unfolding Follows walk
+unfolding Follows
 returns-3 c =
     let t = c .before .before in
     let f = followed _ _ _ (t .before .loop .inv .1) (t .turn-at .ensures) (c .enum-told .given .1) in
-    (sym f ∙ t .before .loop .inv .0, t .before .loop .inv .1)
+    rest-is _ _ (sym f ∙ t .before .loop .inv .0)
 
 pub print-entries-spec : {M : Type 1} → statement M
 print-entries-spec =
@@ -68,8 +85,11 @@ print-entries-spec =
     loop-again
     (λ c. search needs)
     (λ c κs. search needs)
+    sub-result
     returns
     (λ c. search needs)
+    sub-result-2
     returns-2
     (λ c. search needs)
+    sub-result-3
     returns-3)
