@@ -1,0 +1,3 @@
+pub mod Address
+pub mod Line
+pub mod File

@@ -1,0 +1,110 @@
+// Lists the block of each file that an argument names, then writes blocks of 488 and 489 bits. Held to the file stdout.
+use block_lines::file;
+use block_lines::print;
+use libc::STDOUT_FILENO;
+use mac_block::writer;
+use mac_block::writer::LengthIndication;
+use mac_resource::elements::ChannelAllocation;
+use mac_resource::elements::PowerControl;
+use mac_resource::elements::SlotGranting;
+use mac_resource::mac_resource::MacResource;
+use tetra_core::address::SsiType;
+use tetra_core::address::TetraAddress;
+use tetra_core::bitbuffer::Outcome;
+
+fn wide(x: u8) -> u64 {
+    x as u64
+}
+
+fn text(t: &[u8]) {
+    io::write_all(STDOUT_FILENO, t);
+}
+
+fn number(n: u64) {
+    io::print_decimal(STDOUT_FILENO, n);
+}
+
+fn list_named(name: &[u8]) {
+    text(name);
+    text(b"\n");
+    let fd = os::open_read(name);
+    if fd < 0 {
+        os::fail(name);
+        return;
+    }
+    file::list_from(fd);
+    libc::close(fd);
+}
+
+fn list_argument(i: usize) {
+    let mut name = io::buffer();
+    let length = os::arg(i, &mut name);
+    list_named(&name[..length]);
+}
+
+fn list_arguments() {
+    let count = os::arg_count();
+    let mut i = 1;
+    while i < count {
+        list_argument(i);
+        i += 1;
+    }
+}
+
+// A header of 43 bits: SSI 1, no elements.
+fn to_ssi_1() -> MacResource {
+    MacResource {
+        fill_bits: false,
+        pos_of_grant: 0,
+        encryption_mode: 0,
+        random_access_flag: false,
+        length_ind: 0,
+        addr: TetraAddress::Ssi(SsiType::Ssi, 1),
+        power_control_element: PowerControl::Without,
+        slot_granting_element: SlotGranting::Without,
+        chan_alloc_element: ChannelAllocation::Without,
+    }
+}
+
+// The length field of a header that begins with these two bytes: 6 bits behind the first 7.
+fn length_of(first: u8, second: u8) -> u64 {
+    wide(first) % 2 * 32 + wide(second) / 8
+}
+
+// One PDU with so many bits of content, added to a block of 488 bits: its number of octets and the listing, or what refuses it.
+fn add_one(content_bits: usize) {
+    let content = [255u8; 56];
+    let mut block = [0u8; 61];
+    text(b"add ");
+    number(content_bits as u64);
+    let written = writer::add(
+        &mut block,
+        488,
+        0,
+        to_ssi_1(),
+        LengthIndication::Counted,
+        &content,
+        content_bits,
+    );
+    let answer = written.answer;
+    match answer {
+        Outcome::Done => {
+            text(b" octets ");
+            number(length_of(block[0], block[1]));
+            text(b"\n");
+            print::list(&block, 488);
+        }
+        Outcome::Refused(n) => {
+            text(b" refused ");
+            number(wide(n));
+            text(b"\n");
+        }
+    }
+}
+
+fn main() {
+    list_arguments();
+    // 43 and 445 bits are 488; one more is refused.
+    add_one(445);
+    add_one(446);
+}
