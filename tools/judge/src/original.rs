@@ -303,12 +303,6 @@ pub fn record(k: Kind, b: &mut BitBuffer) -> Result<Vec<u64>, PduParseErr> {
     })
 }
 
-/// The record read at a window, and the cursor after it.
-pub fn read(k: Kind, b: &mut BitBuffer) -> Option<(usize, Vec<u64>)> {
-    let r = record(k, b).ok()?;
-    Some((b.get_raw_pos(), r))
-}
-
 pub fn write(k: Kind, b: &mut BitBuffer, r: &[u64]) -> Option<usize> {
     match k {
         Kind::Slotgrant => grant(r).to_bitbuf(b),

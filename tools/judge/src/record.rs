@@ -87,7 +87,7 @@ impl<'a> Case<'a> {
                 b.write_bits(n[0], n[1] as usize);
                 Some(vec![])
             }
-            call if call < WRITE => original::read(KINDS[call as usize], b).map(|(_, record)| record),
+            call if call < WRITE => original::record(KINDS[call as usize], b).ok(),
             call => original::write(KINDS[(call - WRITE) as usize], b, n).map(|_| vec![]),
         }
     }
