@@ -135,7 +135,8 @@ fn assigns() -> Vec<Vec<u64>> {
     for h in 0..4 {
         let one = if h == 0 { fields() } else { usages() };
         let two = if h == 3 { usages() } else { fields() };
-        all.extend(one.iter().enumerate().map(|(i, v)| vec![h, v[0], v[1], i as u64 % 4, 0]));
+        let beside = |i: usize| if h == 3 { 3 } else { i as u64 % 4 };
+        all.extend(one.iter().enumerate().map(|(i, v)| vec![h, v[0], v[1], beside(i), 0]));
         all.extend(two.iter().enumerate().map(|(i, v)| vec![h, i as u64 % 4, 0, v[0], v[1]]));
     }
     all
