@@ -1,5 +1,6 @@
 -- Document 01, "Bits to hold against": one row for each case, and one for the listing's block. A row has what the definitions give that the
 -- contracts cite, and what the case says. `proofs/Cases.antt` computes every row.
+use mathlib.Core.Path.{_≡_}
 use mathlib.Core.Bool.{Bool, true, false}
 use mathlib.Core.List.{List, [], _∷_, _++_}
 use Prim.Native.Nat.{ℕ}
@@ -77,6 +78,11 @@ pub data Answer : Type 0 where
 pub record Row : Type 0 where
   pub computed : List Answer
   pub stated : List Answer
+
+-- in every row both are the same
+abbrev pub Hold : List Row → Type 0
+Hold [] = Unit {0}
+Hold (x ∷ xs) = (x .computed ≡ x .stated) × Hold xs
 
 -- ---- headers and elements
 
