@@ -1,6 +1,5 @@
 -- Every row of specs/Cases.antt, computed.
-use mathlib.Core.Path.{_≡_, refl}
-use mathlib.Core.List.{map}
+use mathlib.Core.Path.{refl}
 use Rattle.bits.specs.Bits.{odd, val, bitsOfNat, bitsOf, pack, splice, bitsAt, putBits}
 use Rattle.tetra_core.specs.BitBuffer.{goodWindow}
 use Rattle.tetra_core.specs.Quantity.{octetCount}
@@ -30,8 +29,8 @@ use Rattle.mac_block.specs.Walk.{goodBlock, stepOf, pduOf, firstPdu, stepAt, st
 use Rattle.mac_block.specs.Writer.{lengthOf, pduSize, flagOf, fillBits, nullBits, finishBits, goodBit, after, finishRefusal, finished, finishTo, finishAnswer, addCheck, addRefusal, addBits, addedBits, added, addTo, addAnswer}
 use Rattle.mac_block.specs.Run.{perform, run}
 use Rattle.mac_block.specs.Step.{sizedEntry, entryOf, stepAnswer}
-use Rattle.cases.specs.Cases.{Row, answers, block, cases}
+use Rattle.cases.specs.Cases.{Hold, answers, block, cases}
 
-pub cases-hold : map (λ (x : Row). x .computed) cases ≡ map (λ (x : Row). x .stated) cases
+pub cases-hold : Hold cases
 unfolding odd val bitsOfNat bitsOf pack splice bitsAt putBits goodWindow octetCount first fieldAt within rowBits refusalAt writeAt writtenAt allocTypeOf ulDlOf readMonPatterns readChannelAllocation channelAllocationAt frame18Refusal lenRefusal channelAllocationRefusal channelAllocationRow frame18Row channelAllocationBits channelAllocationLen computeLen uplinkWidth uplinkOf readUplinkAddress uplinkAddressRefusal uplinkAddressRow readUplinkBody readUplinkHead uplinkRefusal uplinkBodyRow uplinkRow accessCodeOf baseFrameLengthOf accessFieldOf trafficRefusal dlUsageOf ulUsageOf accessAssignOf readAccessAssign accessAssignAt accessAssignRow access.readOption readMacAccess macAccessAt macAccessRefusal macAccessRow data'.readOption readMacData macDataAt macDataRefusal macDataRow addrTypeOf readAddress one readBehindType readFixed fixedRow optional readPower readGranting readAllocation readElements elementsRefusal flagsBits elementsBits readMacResource macResourceAt encryptedRefusal nullRefusal fieldsRefusal resource.addRefusal macResourceRefusal headerBits headerLen lengthRefusal computeHeaderLen updateLenAndFillInd field countedFrame resourceFrame frameOf frame extend beforeLastOne behindHeader readOwn readPdu goodBlock stepOf pduOf firstPdu stepAt step goOn follow walkBy walkFrom walk lengthOf pduSize flagOf fillBits nullBits finishBits goodBit after finishRefusal finished finishTo finishAnswer addCheck addRefusal addBits addedBits added addTo addAnswer perform run sizedEntry entryOf stepAnswer answers block
-cases-hold = refl
+cases-hold = (refl, (refl, (refl, (refl, (refl, (refl, (refl, (refl, (refl, (refl, (refl, (refl, tt))))))))))))

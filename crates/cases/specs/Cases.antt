@@ -1,5 +1,6 @@
 -- Document 01, "Bits to hold against": one row for each case, and one for the listing's block. A row has what the definitions give that the
 -- contracts cite, and what the case says. `proofs/Cases.antt` computes every row.
+use mathlib.Core.Path.{_≡_}
 use mathlib.Core.Bool.{Bool, true, false}
 use mathlib.Core.List.{List, [], _∷_, _++_}
 use Prim.Native.Nat.{ℕ}
@@ -78,13 +79,18 @@ pub record Row : Type 0 where
   pub computed : List Answer
   pub stated : List Answer
 
+-- in every row both are the same
+abbrev pub Hold : List Row → Type 0
+Hold [] = Unit {0}
+Hold (x ∷ xs) = (x .computed ≡ x .stated) × Hold xs
+
 -- ---- headers and elements
 
 -- the cursor at the bit p of a window of n bits
 abbrev pub window : (p n : ℕ) → Cursor
 window p n = record { start = 0; pos = p; end = n }
 
--- "Done", which leaves the cursor at p
+-- a write that is done and leaves the cursor at p
 abbrev pub wrote : (p n : ℕ) → List ℕ → Answer
 wrote p n bytes = Answer.Wrote (record { cursor = window p n; answer = Outcome.Done }) bytes
 
@@ -346,13 +352,17 @@ case-11 =
           ∷ [];
     }
 
--- "For 124 bits, 20 31 00 00 01 10 00 10 80 then seven 00 h", written over ones: adds refused 8, 2 and 13, an add after the finish, and a second
--- finish are among the calls, and the four bits past 124 keep their values
+-- "For 124 bits, 20 31 00 00 01 10 00 10 80 then seven 00 h": the block as it is read, and as it is written over ones. Adds refused 8, 2 and 13,
+-- an add after the finish, and a second finish are among the calls, and the four bits past 124 keep their values
+abbrev pub listed : (last : ℕ) → List ℕ
+listed last = 0x20 ∷ 0x31 ∷ 0x00 ∷ 0x00 ∷ 0x01 ∷ 0x10 ∷ 0x00 ∷ 0x10 ∷ 0x80 ∷ (replicate 6 0x00 ++ (last ∷ []))
+
 abbrev pub listing : Row
 listing =
     record {
       computed =
-          block 124 (replicate 16 0xff)
+          block 124 (listed 0x00) []
+          ∷ block 124 (replicate 16 0xff)
           (counts 0
           ∷ counts 446
           ∷ adds LengthIndication.Mark62 34
@@ -363,8 +373,9 @@ listing =
           ∷ [])
           ∷ [];
       stated =
-          Answer.Block (done 48 ∷ refused 48 8 ∷ refused 48 2 ∷ refused 48 13 ∷ done 124 ∷ refused 124 2 ∷ done 124 ∷ [])
-          (0x20 ∷ 0x31 ∷ 0x00 ∷ 0x00 ∷ 0x01 ∷ 0x10 ∷ 0x00 ∷ 0x10 ∷ 0x80 ∷ (replicate 6 0x00 ++ (0x0f ∷ [])))
+          Answer.Block [] (listed 0x00) (walked (pdu 0 48 6 true 0 5 ∷ null 48 ∷ []) 64)
+          ∷ Answer.Block (done 48 ∷ refused 48 8 ∷ refused 48 2 ∷ refused 48 13 ∷ done 124 ∷ refused 124 2 ∷ done 124 ∷ [])
+          (listed 0x0f)
           (walked (pdu 0 48 6 true 0 5 ∷ null 48 ∷ []) 64)
           ∷ [];
     }
