@@ -69,7 +69,7 @@ unfolding Follows
 returns-3 c =
     let t = c .before .before in
     let f = followed _ _ _ (t .before .loop .inv .1) (t .turn-at .ensures) (c .enum-told .given .1) in
-    rest-is _ _ (sym f ∙ t .before .loop .inv .0)
+    rest-is _ _ (sym (f .0) ∙ t .before .loop .inv .0)
 
 pub print-entries-spec : {M : Type 1} → statement M
 print-entries-spec =
