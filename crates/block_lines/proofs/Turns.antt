@@ -2,7 +2,7 @@
 use mathlib.Core.Path.{_≡_, refl, sym, ap, _∙_}
 use mathlib.Core.Bool.{Bool, true, false}
 use mathlib.Core.Option.{Option, none, some}
-use mathlib.Core.List.{List}
+use mathlib.Core.List.{List, [], _∷_, map}
 use Prim.Native.Nat.{ℕ, suc, _+_, _-_, _≤_, _<_}
 use native.Mathlib.Omega.{arith}
 use borrow.Author.Tests.{leb-true}
@@ -16,7 +16,7 @@ use Rattle.mac_block.specs.declared.reader.BlockEntry.{BlockEntry}
 use Rattle.mac_block.specs.declared.reader.StepAnswer.{StepAnswer}
 use Rattle.mac_block.specs.Frame.{frame}
 use Rattle.mac_block.specs.Read.{Reading}
-use Rattle.mac_block.specs.Walk.{goodBlock, Pdu, Step, stepOf, pduOf, firstPdu, stepAt, step, follow, goOn, walkBy, walkFrom, walk}
+use Rattle.mac_block.specs.Walk.{goodBlock, Pdu, Entry, Step, Walk, stepOf, pduOf, firstPdu, stepAt, step, follow, goOn, walkBy, walkFrom, walk}
 use Rattle.mac_block.specs.Resource.{resourceCodec}
 use Rattle.mac_block.specs.Step.{sizedEntry, entryOf, stepAnswer}
 use Rattle.mac_block.specs.Demand3.{Holds}
@@ -25,13 +25,14 @@ use Rattle.mac_block.proofs.Frames.{Bounds, bounds}
 use Rattle.mac_block.proofs.Blocks.{held, length-block}
 use Rattle.mac_block.proofs.Stepping.{step-there}
 use Rattle.mac_block.proofs.Demand3Resource.{demand-3-of-blocks}
+use Rattle.block_lines.specs.declared.line.Line.{Line}
 use Rattle.block_lines.specs.declared.line.Turn.{Turn}
-use Rattle.block_lines.specs.Line.{readLine, pduTurn, turnOf, restBits, resourceLine, endTurn, refusedTurn, Listable, entryTurn}
+use Rattle.block_lines.specs.Line.{readLine, pduLine, pduTurn, turnOf, linesFrom, restBits, resourceLine, endTurn, refusedTurn, Listable, entryTurn}
 
 -- ---- an entry as the reader answers it has the line and the turn of the definition's entry
 
 entry-same : (p : ℕ) (x : Pdu MacResource) → entryTurn (entryOf p x) ≡ pduTurn p x
-unfolding entryTurn refusedTurn endTurn resourceLine entryOf sizedEntry pduTurn readLine
+unfolding entryTurn refusedTurn endTurn resourceLine entryOf sizedEntry pduTurn pduLine readLine
 entry-same p (Pdu.null l) = refl
 entry-same p (Pdu.sized s (Reading.read h m content fill)) =
     let a : p + s - p ≡ s = omega arith in
@@ -103,11 +104,15 @@ pub rest-is : (v : List ℕ) (n : ℕ) {q : ℕ} → q ≡ restFrom v n 0 → n 
 unfolding restBits walk
 rest-is v n e = ap (λ i. n - i) e
 
+-- the lines of a walk
+abbrev lines : Walk MacResource → List Line
+lines w = map (λ (e : Entry MacResource). pduLine (e .bit) (e .pdu)) (w .entries)
+
 unfoldable pub Follows : List ℕ → (n p : ℕ) → Turn → Type 0
-Follows v n p (Turn.On l q) = (restFrom v n p ≡ restFrom v n q) × (p < q) × (q ≤ n)
-Follows v n p (Turn.Last l q) = (restFrom v n p ≡ q) × (q ≤ n)
-Follows v n p (Turn.Rest q) = (restFrom v n p ≡ q) × (q ≤ n)
-Follows v n p (Turn.Refused r) = restFrom v n p ≡ p
+Follows v n p (Turn.On l q) = (restFrom v n p ≡ restFrom v n q) × (p < q) × (q ≤ n) × (linesFrom v n p ≡ l ∷ linesFrom v n q)
+Follows v n p (Turn.Last l q) = (restFrom v n p ≡ q) × (q ≤ n) × (linesFrom v n p ≡ l ∷ [])
+Follows v n p (Turn.Rest q) = (restFrom v n p ≡ q) × (q ≤ n) × (linesFrom v n p ≡ [])
+Follows v n p (Turn.Refused r) = (restFrom v n p ≡ p) × (linesFrom v n p ≡ [])
 
 module _ (v : List ℕ) (n p : ℕ) (h : p ≤ n) where
   first-step : walkFrom resourceCodec v n p ≡ follow (walkBy (step resourceCodec v n) n) p (step resourceCodec v n p)
@@ -119,17 +124,22 @@ module _ (v : List ℕ) (n p : ℕ) (h : p ≤ n) where
   refused-13 bad = rw bad
 
   no-block : goodBlock n (length v) ≡ false → Follows v n p (turnOf p (step resourceCodec v n p))
-  unfolding Follows turnOf follow
-  no-block bad = rw (refused-13 bad) (ap (λ w. w .restAt) first-step ∙ rw (refused-13 bad))
+  unfolding Follows turnOf follow linesFrom
+  no-block bad = rw (refused-13 bad)
+      (ap (λ w. w .restAt) first-step ∙ rw (refused-13 bad), ap lines first-step ∙ rw (refused-13 bad))
 
   in-block : Holds n v → (f : Frame) → Bounds (n - p) f → step resourceCodec v n p ≡ stepOf p (pduOf resourceCodec (bitsAt v p (n - p)) f)
       → Follows v n p (turnOf p (stepOf p (pduOf resourceCodec (bitsAt v p (n - p)) f)))
-  unfolding Follows turnOf pduTurn stepOf pduOf Bounds follow goOn
-  in-block holds Frame.End b e = (ap (λ w. w .restAt) (demand-3-of-blocks .walks .steps n v holds p h) ∙ rw e, h)
-  in-block holds (Frame.Unsized j o) b e = (ap (λ w. w .restAt) (demand-3-of-blocks .walks .steps n v holds p h) ∙ rw e, h)
-  in-block holds (Frame.Null l) b e = (ap (λ w. w .restAt) (demand-3-of-blocks .walks .steps n v holds p h) ∙ rw e, omega arith)
+  unfolding Follows turnOf pduTurn stepOf pduOf Bounds follow goOn linesFrom
+  in-block holds Frame.End b e =
+      let w = demand-3-of-blocks .walks .steps n v holds p h in (ap (λ w. w .restAt) w ∙ rw e, h, ap lines w ∙ rw e)
+  in-block holds (Frame.Unsized j o) b e =
+      let w = demand-3-of-blocks .walks .steps n v holds p h in (ap (λ w. w .restAt) w ∙ rw e, h, ap lines w ∙ rw e)
+  in-block holds (Frame.Null l) b e =
+      let w = demand-3-of-blocks .walks .steps n v holds p h in (ap (λ w. w .restAt) w ∙ rw e, omega arith, ap lines w ∙ rw e)
   in-block holds (Frame.Sized s) b e =
-      (ap (λ w. w .restAt) (demand-3-of-blocks .walks .steps n v holds p h) ∙ rw e, omega (arith, b .0), omega (arith, b .1))
+      let w = demand-3-of-blocks .walks .steps n v holds p h in
+      (ap (λ w. w .restAt) w ∙ rw e, omega (arith, b .0), omega (arith, b .1), ap lines w ∙ rw e)
 
   pub follows : Follows v n p (turnOf p (step resourceCodec v n p))
   follows = go (goodBlock n (length v)) refl

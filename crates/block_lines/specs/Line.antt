@@ -1,5 +1,5 @@
 -- The line of each entry of a block's walk, and where the walk goes on behind it. Document 01, "A listing program" and "Block".
-use mathlib.Core.List.{List}
+use mathlib.Core.List.{List, map}
 use Prim.Native.Nat.{ℕ, _+_, _-_, _≤_}
 use lib.ListN.{length}
 use Rattle.tetra_core.specs.declared.refusal.Refusal.{Refusal}
@@ -9,7 +9,7 @@ use Rattle.mac_block.specs.declared.reader.RefusedPdu.{RefusedPdu}
 use Rattle.mac_block.specs.declared.reader.PduEnd.{PduEnd}
 use Rattle.mac_block.specs.declared.reader.BlockEntry.{BlockEntry}
 use Rattle.mac_block.specs.Read.{Reading}
-use Rattle.mac_block.specs.Walk.{Pdu, Step, walk}
+use Rattle.mac_block.specs.Walk.{Pdu, Entry, Step, walkFrom, walk}
 use Rattle.mac_block.specs.Resource.{resourceCodec}
 use Rattle.mac_block.specs.Step.{refusal}
 use Rattle.block_lines.specs.declared.line.ResourceLine.{ResourceLine}
@@ -23,17 +23,26 @@ readLine p s (Reading.read h m content fill) =
     Line.Resource (record { start = p; «pdu_bits» = s; addr = h .addr; «content_bits» = length content })
 readLine p s (Reading.refused j o) = Line.Refused p (refusal j o)
 
+unfoldable pub pduLine : ℕ → Pdu MacResource → Line
+pduLine p (Pdu.null l) = Line.Null p
+pduLine p (Pdu.sized s r) = readLine p s r
+pduLine p (Pdu.unsized j o) = Line.Refused p (refusal j o)
+
 -- "if it or its fill (12) is refused, the walk goes on at the PDU's end"; "Rest is the bits after a null PDU, or from p where the walk ended
 -- otherwise"
 unfoldable pub pduTurn : ℕ → Pdu MacResource → Turn
-pduTurn p (Pdu.null l) = Turn.Last (Line.Null p) (p + 16)
-pduTurn p (Pdu.sized s r) = Turn.On (readLine p s r) (p + s)
-pduTurn p (Pdu.unsized j o) = Turn.Last (Line.Refused p (refusal j o)) p
+pduTurn p (Pdu.null l) = Turn.Last (pduLine p (Pdu.null l)) (p + 16)
+pduTurn p (Pdu.sized s r) = Turn.On (pduLine p (Pdu.sized s r)) (p + s)
+pduTurn p (Pdu.unsized j o) = Turn.Last (pduLine p (Pdu.unsized j o)) p
 
 unfoldable pub turnOf : ℕ → Step MacResource → Turn
 turnOf p (Step.refused j o) = Turn.Refused (refusal j o)
 turnOf p Step.end = Turn.Rest p
 turnOf p (Step.entry e) = pduTurn (e .bit) (e .pdu)
+
+-- the lines of the walk from the bit p on, in a block of n bits in the bytes v: one for each entry, in their order
+unfoldable pub linesFrom : (v : List ℕ) (n p : ℕ) → List Line
+linesFrom v n p = map (λ (e : Entry MacResource). pduLine (e .bit) (e .pdu)) (walkFrom resourceCodec v n p .entries)
 
 -- the number behind `rest`, in a block of n bits in the bytes v
 unfoldable pub restBits : (v : List ℕ) (n : ℕ) → ℕ

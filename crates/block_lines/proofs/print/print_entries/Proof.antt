@@ -35,7 +35,7 @@ sub-result c =
     let k = c .before .before in
     let t = k .before .before in
     let f = followed _ _ _ (t .before .loop .inv .1) (t .turn-at .ensures) (k .l2 .given .1) in
-    f .1
+    omega arith
 
 returns : tie.Need-returns Inv-loop μ-loop
 unfolding Follows
@@ -51,7 +51,7 @@ sub-result-2 c =
     let k = c .before in
     let t = k .before .before in
     let f = followed _ _ _ (t .before .loop .inv .1) (t .turn-at .ensures) (k .rest-at .given .1) in
-    f .1
+    omega arith
 
 returns-2 : tie.Need-returns-2 Inv-loop μ-loop
 unfolding Follows
@@ -62,14 +62,14 @@ returns-2 c =
     rest-is _ _ (sym (f .0) ∙ t .before .loop .inv .0)
 
 sub-result-3 : tie.Need-sub-result-3 Inv-loop μ-loop
-sub-result-3 c = c .before .before .before .loop .inv .1
+sub-result-3 c = let h = c .before .before .before .loop .inv .1 in omega arith
 
 returns-3 : tie.Need-returns-3 Inv-loop μ-loop
 unfolding Follows
 returns-3 c =
     let t = c .before .before in
     let f = followed _ _ _ (t .before .loop .inv .1) (t .turn-at .ensures) (c .enum-told .given .1) in
-    rest-is _ _ (sym f ∙ t .before .loop .inv .0)
+    rest-is _ _ (sym (f .0) ∙ t .before .loop .inv .0)
 
 pub print-entries-spec : {M : Type 1} → statement M
 print-entries-spec =

@@ -1,0 +1,17 @@
+-- specs/Examples.antt, computed.
+use mathlib.Core.Path.{_≡_, refl}
+use Rattle.bits.specs.Bits.{odd, val, bitsOfNat, bitsOf, bitsAt}
+use Rattle.codec.specs.Reader.{fieldAt}
+use Rattle.mac_resource.specs.Address.{addrTypeOf, readAddress, one}
+use Rattle.mac_resource.specs.Fixed.{readBehindType, readFixed}
+use Rattle.mac_resource.specs.Elements.{optional, readPower, readGranting, readAllocation, readElements}
+use Rattle.mac_resource.specs.MacResource.{readMacResource}
+use Rattle.mac_block.specs.Frame.{field, countedFrame, resourceFrame, frameOf, frame}
+use Rattle.mac_block.specs.Read.{extend, beforeLastOne, behindHeader, readOwn, readPdu}
+use Rattle.mac_block.specs.Walk.{goodBlock, stepOf, pduOf, firstPdu, stepAt, step, goOn, follow, walkBy, walkFrom, walk}
+use Rattle.block_lines.specs.Line.{readLine, pduLine, linesFrom, restBits}
+use Rattle.block_lines.specs.Examples.{bytes-01, lines-01}
+
+pub listing-01 : (linesFrom bytes-01 124 0 ≡ lines-01) × (restBits bytes-01 124 ≡ 60)
+unfolding odd val bitsOfNat bitsOf bitsAt fieldAt addrTypeOf readAddress one readBehindType readFixed optional readPower readGranting readAllocation readElements readMacResource field countedFrame resourceFrame frameOf frame extend beforeLastOne behindHeader readOwn readPdu goodBlock stepOf pduOf firstPdu stepAt step goOn follow walkBy walkFrom walk readLine pduLine linesFrom restBits
+listing-01 = (refl, refl)
