@@ -110,6 +110,20 @@ readChannelAllocation = do
         «frame18_mon_pattern» = p .«frame18_mon_pattern»;
       })
 
+-- the same of its first 23 bits as one number, with its patterns
+abbrev pub elementOf : ℕ → MonPatterns → ChanAllocElement
+elementOf x p =
+    record {
+      «alloc_type» = allocTypeOf (x / 2 ^ 21 % 4);
+      «ts_assigned» = timeslotsOf (x / 2 ^ 17 % 16);
+      «ul_dl_assigned» = ulDlOf (x / 2 ^ 15 % 4);
+      «clch_permission» = flag (x / 2 ^ 14 % 2);
+      «cell_change_flag» = flag (x / 2 ^ 13 % 2);
+      «carrier_num» = x / 2 ^ 1 % 4096;
+      «mon_pattern» = p .«mon_pattern»;
+      «frame18_mon_pattern» = p .«frame18_mon_pattern»;
+    }
+
 -- a part's answer as an outcome
 abbrev pub channelAllocationOut : List Bool → ChannelAllocationPart → Out ChanAllocElement
 channelAllocationOut h (Read e n) = got e (drop n h) n

@@ -18,7 +18,7 @@ ghost use lib.ListN.{length};
 ghost use Rattle.bits.specs.Bits.{bitsOfNat, putBits};
 ghost use Rattle.codec.specs.Ahead.{Ready, ReadsNext};
 ghost use Rattle.codec.specs.Row.{RowIs};
-ghost use Rattle.tetra_fields.specs.ChannelAllocation.{timeslotsOf, timeslotsNumber, frame18Number, readMonPatterns, monPatternsOut, readChannelAllocation, channelAllocationOut, channelAllocationAt, frame18Refusal, lenRefusal, channelAllocationRefusal, channelAllocationRow, channelAllocationBits, channelAllocationLen, computeLen, channelAllocationWrite, channelAllocationWritten};
+ghost use Rattle.tetra_fields.specs.ChannelAllocation.{timeslotsOf, timeslotsNumber, frame18Number, readMonPatterns, monPatternsOut, elementOf, readChannelAllocation, channelAllocationOut, channelAllocationAt, frame18Refusal, lenRefusal, channelAllocationRefusal, channelAllocationRow, channelAllocationBits, channelAllocationLen, computeLen, channelAllocationWrite, channelAllocationWritten};
 
 // The timeslots assigned, slot 1 first.
 pub struct TimeslotsAssigned {
@@ -155,6 +155,23 @@ fn read_mon_patterns(a: Ahead) -> MonPatternsPart
     )
 }
 
+// The channel allocation whose first 23 bits are the number x, with its patterns.
+fn element_of(x: u64, p: MonPatterns) -> ChanAllocElement
+    ensures { λ r. ⌜ r ≡ elementOf x p ⌝ }
+{
+    let frame18_mon_pattern = p.frame18_mon_pattern;
+    ChanAllocElement {
+        alloc_type: alloc_type::from_raw((x >> 21) % 4),
+        ts_assigned: timeslots_from_raw((x >> 17) % 16),
+        ul_dl_assigned: ul_dl_assignment::from_raw((x >> 15) % 4),
+        clch_permission: (x >> 14) % 2 != 0,
+        cell_change_flag: (x >> 13) % 2 != 0,
+        carrier_num: ((x >> 1) % 4096) as u16,
+        mon_pattern: p.mon_pattern,
+        frame18_mon_pattern,
+    }
+}
+
 // The channel allocation that is ahead.
 pub fn read_channel_allocation(a: Ahead) -> ChannelAllocationPart
     requires { ⌜ Ready a 27 ⌝ }
@@ -182,20 +199,7 @@ pub fn read_channel_allocation(a: Ahead) -> ChannelAllocationPart
                     bit: o + 6,
                 });
             }
-            let frame18_mon_pattern = p.frame18_mon_pattern;
-            ChannelAllocationPart::Read(
-                ChanAllocElement {
-                    alloc_type: alloc_type::from_raw((x >> 21) % 4),
-                    ts_assigned: timeslots_from_raw((x >> 17) % 16),
-                    ul_dl_assigned: ul_dl_assignment::from_raw((x >> 15) % 4),
-                    clch_permission: (x >> 14) % 2 != 0,
-                    cell_change_flag: (x >> 13) % 2 != 0,
-                    carrier_num: ((x >> 1) % 4096) as u16,
-                    mon_pattern: p.mon_pattern,
-                    frame18_mon_pattern,
-                },
-                n,
-            )
+            ChannelAllocationPart::Read(element_of(x, p), n)
         }
     }
 }

@@ -69,7 +69,7 @@ returns-4 c =
 returns-5 : tie.Need-returns-5
 unfolding readChannelAllocation
 returns-5 c =
-    let i = c .before .before .before in
+    let i = c .before in
     let m = i .before .before .before .before in
     let t = m .before .before .before in
     let l = t .before .if1 .left in
@@ -81,9 +81,7 @@ returns-5 c =
           run-bind,
           read (rw (m .before .on .ensures) at (m .read-mon-patterns .ensures) .of h (held-on 23 e l)) (i .before .before .p .given .1),
           ne-eqb _ _ (i .if3 .left),
-          c .before .before .from-raw .ensures,
-          c .before .timeslots-from-raw .ensures,
-          c .from-raw2 .ensures,
+          c .element-of .ensures,
         );
       };
     }
@@ -105,8 +103,5 @@ read-channel-allocation-spec =
     (λ c. search needs)
     returns-3
     (λ c κs. search needs)
-    (λ c κs. search needs)
-    (λ c κs. search needs)
-    (λ c. search needs)
     returns-4
     returns-5)
