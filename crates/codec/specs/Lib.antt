@@ -14,6 +14,10 @@
 --          read            what a part's own function answered, as the part's outcome
 --          bad-seen, good-seen   what `if !good_window(..)` told
 --          ends            a header that is read ends inside its window
+-- Ahead    held-load       a word that `load` loaded holds the bits ahead; held-on, ready-on: some bits on, after `on`
+--          starved-next    starved where a part is read from what is ahead; starved-field for one field
+--          next-read       what a part's own function answered of what is ahead, as the part's outcome
+--          took            what was read of it was there
 -- Row      row-is          the number of a row whose values fit
 --          length-row      the bits of a row are as many as its widths together
 --          put-row         a number that was put is the row that it stands for
