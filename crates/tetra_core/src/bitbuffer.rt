@@ -11,7 +11,8 @@ ghost use mathlib.Core.Bool.{true, false};
 ghost use lib.ListN.{length};
 ghost use lib.IntN.{_+ℤ_};
 ghost use lib.Dec.{ltb};
-ghost use Rattle.tetra_core.specs.BitBuffer.{goodWindow, readRefusal, readBits, peekAt, peekBitsPosoffset, writeRefusal, writeBits, written, at, placeOf, signed, readRefused, moves, windowCount, changed, seekRel, opened, writeRun, runWritten, copyRefusal, copyBits, copied, intoSliceRefusal, readBitsIntoSlice, slicedBits, roomRefusal, toBitarr, bitarr, fromBitarrRefusal, copyBitsFromBitarr, fromBitarr};
+ghost use Rattle.bits.specs.Bits.{bitsOfNat, putBits};
+ghost use Rattle.tetra_core.specs.BitBuffer.{goodWindow, readRefusal, readBits, peekAt, peekBitsPosoffset, writeRefusal, writeBits, written, at, placeOf, signed, readRefused, bytesAfter, moves, moved, windowCount, changed, seekRel, opened, writeRun, runWritten, copyRefusal, copyBits, copied, intoSliceRefusal, readBitsIntoSlice, slicedBits, roomRefusal, toBitarr, bitarr, fromBitarrRefusal, copyBitsFromBitarr, fromBitarr};
 
 // A window over a slice and the bit that it has reached. It is good where start <= pos <= end, and end is at most 65,536 and
 // at most the bits of the slice.
@@ -137,6 +138,23 @@ fn moved_to(c: Cursor, p: usize) -> Cursor
         start: c.start,
         pos: p,
         end: c.end,
+    }
+}
+
+// The cursor n bits on, or where it was if a number other than 0 refuses the call.
+fn moved_unless(c: Cursor, number: u8, n: usize) -> Moved
+    requires { ⌜ (number ≡ 0 → c .pos + n ≤ 65536) ⌝ }
+    ensures { λ r. ⌜ r ≡ moves number c (moved c n) ⌝ }
+{
+    if number != 0 {
+        return Moved {
+            cursor: c,
+            answer: Outcome::Refused(number),
+        };
+    }
+    Moved {
+        cursor: moved_to(c, c.pos + n),
+        answer: Outcome::Done,
     }
 }
 
@@ -308,23 +326,24 @@ pub fn to_bitarr(s: &[u8], c: Cursor, buf: &mut [u8]) -> BitsRead
     }
 }
 
-// Writes value in num_bits bits, 64 at most.
+// Puts value into num_bits bits at the cursor, or nothing if a number other than 0 refuses the call.
+fn put_unless(s: &mut [u8], c: Cursor, value: u64, num_bits: usize, number: u8)
+    requires { ⌜ (number ≡ 0 → (c .pos + «num_bits» ≤ 8 * length (now s)) × («num_bits» ≤ 64) × (c .pos ≤ 65536) × (value < 2 ^ «num_bits»)) ⌝ }
+    ensures { λ r. ⌜ now (s .exit) ≡ bytesAfter number (now (s .entry)) (putBits (now (s .entry)) (c .pos) (bitsOfNat «num_bits» value)) ⌝ }
+{
+    if number != 0 {
+        return;
+    }
+    word::put_bits(s, c.pos, num_bits, value);
+}
+
+// Writes value in num_bits bits, 64 at most. One exit, so that the answer stays out of memory.
 pub fn write_bits(s: &mut [u8], c: Cursor, value: u64, num_bits: usize) -> Moved
     ensures { λ r. ⌜ (r ≡ writeBits (now (s .entry)) c value «num_bits») × (now (s .exit) ≡ written (now (s .entry)) c value «num_bits») ⌝ }
 {
     let number = write_refusal(s.len(), c, value, num_bits);
-    if number != 0 {
-        return Moved {
-            cursor: c,
-            answer: Outcome::Refused(number),
-        };
-    }
-    let pos = c.pos;
-    word::put_bits(s, pos, num_bits, value);
-    Moved {
-        cursor: moved_to(c, pos + num_bits),
-        answer: Outcome::Done,
-    }
+    put_unless(s, c, value, num_bits, number);
+    moved_unless(c, number, num_bits)
 }
 
 // Writes one bit: 0 or 1.

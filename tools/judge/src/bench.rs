@@ -56,7 +56,7 @@ fn read_header(what: &str, k: Kind, s: Vec<u8>, bits: u64) -> Operation {
             b.set_raw_pos(0);
             black_box(read_original(k, &mut b));
         }),
-        ours: calls(move || black_box(ours::read(k, black_box(&s), WHOLE, &mut out)).unwrap()),
+        ours: calls(move || ours::read(k, &s, WHOLE, &mut out).unwrap()),
     }
 }
 
@@ -69,9 +69,9 @@ fn write_header(what: &str, k: Kind, record: Vec<u64>, bits: u64) -> Operation {
         name: format!("write {what}, {bits} bits"),
         theirs: calls(move || {
             b.set_raw_pos(0);
-            value.write(black_box(&mut b));
+            value.write(&mut b);
         }),
-        ours: calls(move || black_box(ours::write(k, black_box(&mut t), WHOLE, &record, &mut out)).unwrap()),
+        ours: calls(move || ours::write(k, &mut t, WHOLE, &record, &mut out).unwrap()),
     }
 }
 
@@ -142,7 +142,7 @@ fn bits(all: &mut Vec<Operation>, n: usize, pos: usize) {
             b.set_raw_pos(pos);
             black_box(b.read_bits(black_box(n)));
         }),
-        ours: calls(move || black_box(ours::read_bits(black_box(&s), w, black_box(n), &mut out)).unwrap()),
+        ours: calls(move || ours::read_bits(&s, w, black_box(n), &mut out).unwrap()),
     });
     all.push(Operation {
         name: format!("write {n} bits at bit {pos}"),
@@ -150,7 +150,7 @@ fn bits(all: &mut Vec<Operation>, n: usize, pos: usize) {
             c.set_raw_pos(pos);
             c.write_bits(black_box(value), black_box(n));
         }),
-        ours: calls(move || black_box(ours::write_bits(black_box(&mut t), w, black_box(value), black_box(n), &mut also)).unwrap()),
+        ours: calls(move || ours::write_bits(&mut t, w, black_box(value), black_box(n), &mut also).unwrap()),
     });
 }
 
