@@ -15,3 +15,4 @@ pub mod AccessAssign
 pub mod MacAccess
 pub mod MacData
 pub mod MacResource
+pub mod Block

@@ -6,7 +6,7 @@ ghost use mathlib.Core.Path.{_≡_};
 ghost use Prim.Native.Nat.{_+_, _≤_, _<_, min};
 ghost use lib.ListN.{length};
 ghost use lib.Seq.{sets};
-ghost use Rattle.tetra_mac.specs.Reply.{replied, givenReply, deniedReply, movedReply};
+ghost use Rattle.tetra_mac.specs.Reply.{replied, statusOf, givenReply, deniedReply, movedReply};
 
 // The status of a call whose record or out is too short, or whose record has a code that no case has.
 pub(crate) const MALFORMED: u64 = 255;
@@ -33,13 +33,21 @@ pub(crate) fn give(out: &mut [u64], at: usize, words: &[u64]) -> u64
     0
 }
 
+// The status of a refused read: its number, and its bit behind the eight bits of the number.
+pub(crate) fn status(r: Refusal) -> u64
+    requires { ⌜ r .bit ≤ 65536 ⌝ }
+    ensures { λ n. ⌜ n ≡ statusOf r ⌝ }
+{
+    r.number as u64 + 256 * r.bit as u64
+}
+
 // Puts the cursor's bit into out: the status of a refused read.
 pub(crate) fn deny(out: &mut [u64], at: usize, r: Refusal) -> u64
     requires { ⌜ (0 < length (now out)) × (r .bit ≤ 65536) ⌝ }
     ensures { λ n. ⌜ replied n (now (out .exit)) ≡ deniedReply (now (out .entry)) at r ⌝ }
 {
     out[0] = at as u64;
-    r.number as u64 + 256 * r.bit as u64
+    status(r)
 }
 
 // Puts the cursor's bit into out: the status of a call that writes.

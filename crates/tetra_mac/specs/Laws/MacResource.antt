@@ -51,7 +51,7 @@ allocation-taken : (a : ChannelAllocation) → take 10 (allocationWords a) ≡ a
 allocation-taken ChannelAllocation.Without = refl
 allocation-taken (ChannelAllocation.Element e) = refl
 
-elements-long : (g : SlotGranting) (a : ChannelAllocation) → length (grantingWords g ++ allocationWords a) ≡ 14
+pub elements-long : (g : SlotGranting) (a : ChannelAllocation) → length (grantingWords g ++ allocationWords a) ≡ 14
 elements-long SlotGranting.Without ChannelAllocation.Without = refl
 elements-long SlotGranting.Without (ChannelAllocation.Element e) = refl
 elements-long (SlotGranting.Element g) ChannelAllocation.Without = refl
