@@ -20,6 +20,7 @@ use Rattle.mac_resource.specs.declared.mac_resource.MacResource.{MacResource}
 use Rattle.mac_resource.specs.declared.mac_resource.MacResourceAnswer.{MacResourceAnswer}
 use Rattle.mac_resource.specs.declared.mac_resource.HeaderLen.{HeaderLen}
 use Rattle.mac_resource.specs.declared.mac_resource.LenAndFill.{LenAndFill}
+use Rattle.tetra_mac.specs.declared.resource.Front.{Front}
 use Rattle.tetra_mac.specs.Reply.{Reply, WriteReply, givenReply, deniedReply, countedReply, replied, readReply, writeReply, recordReply, valueIf, word}
 use Rattle.tetra_mac.specs.Address.{addressKind, addressFirst, addressSecond, addressKnown, addressValue}
 use Rattle.tetra_mac.specs.Slotgrant.{slotgrantWords, slotgrantKnown, slotgrantValue}
@@ -91,19 +92,39 @@ grantingValue ws = cond (eqb (word ws 0) 0) SlotGranting.Without (SlotGranting.E
 unfoldable pub allocationValue : List ℕ → ChannelAllocation
 allocationValue ws = cond (eqb (word ws 0) 0) ChannelAllocation.Without (ChannelAllocation.Element (channelAllocationValue (part ws 1 9)))
 
-unfoldable pub macResourceValue : List ℕ → MacResource
-macResourceValue ws =
+-- a header of its parts: the fields before the address, the address, the elements
+abbrev pub frontValue : List ℕ → Front
+frontValue ws =
     record {
       «fill_bits» = flag (word ws 0);
       «pos_of_grant» = min (word ws 1) 255;
       «encryption_mode» = min (word ws 2) 255;
       «random_access_flag» = flag (word ws 3);
       «length_ind» = min (word ws 4) 255;
-      addr = addressValue (word ws 5) (word ws 6) (word ws 7) (word ws 8);
-      «power_control_element» = powerValue (word ws 9) (min (word ws 10) 255);
-      «slot_granting_element» = grantingValue (part ws 11 4);
-      «chan_alloc_element» = allocationValue (part ws 15 10);
     }
+
+abbrev pub addressOfWords : List ℕ → TetraAddress
+addressOfWords ws = addressValue (word ws 5) (word ws 6) (word ws 7) (word ws 8)
+
+abbrev pub powerOfWords : List ℕ → PowerControl
+powerOfWords ws = powerValue (word ws 9) (min (word ws 10) 255)
+
+abbrev pub assembled : Front → TetraAddress → PowerControl → SlotGranting → ChannelAllocation → MacResource
+assembled f a p g c =
+    record {
+      «fill_bits» = f .«fill_bits»;
+      «pos_of_grant» = f .«pos_of_grant»;
+      «encryption_mode» = f .«encryption_mode»;
+      «random_access_flag» = f .«random_access_flag»;
+      «length_ind» = f .«length_ind»;
+      addr = a;
+      «power_control_element» = p;
+      «slot_granting_element» = g;
+      «chan_alloc_element» = c;
+    }
+
+unfoldable pub macResourceValue : List ℕ → MacResource
+macResourceValue ws = assembled (frontValue ws) (addressOfWords ws) (powerOfWords ws) (grantingValue (part ws 11 4)) (allocationValue (part ws 15 10))
 
 abbrev pub macResourceOfWords : List ℕ → Option MacResource
 macResourceOfWords ws = valueIf (macResourceKnown ws) (macResourceValue ws)

@@ -20,7 +20,7 @@ ghost use Prim.Native.Nat.{_≤_};
 ghost use lib.ListN.{length};
 ghost use lib.Seq.{sets};
 ghost use Rattle.tetra_mac.specs.Reply.{replied, wrote, window, putFirst, givenReply};
-ghost use Rattle.tetra_mac.specs.MacResource.{fixedWords, addressWords, powerPresent, powerLevel, powerWords, frontWords, grantingWords, allocationWords, macResourceWords, powerValue, grantingKnown, grantingValue, allocationKnown, allocationValue, macResourceKnown, macResourceValue, macResourceReadReply, macResourceWriteReply, headerLenReply, updateLenReply};
+ghost use Rattle.tetra_mac.specs.MacResource.{fixedWords, addressWords, powerPresent, powerLevel, powerWords, frontWords, grantingWords, allocationWords, macResourceWords, powerValue, grantingKnown, grantingValue, allocationKnown, allocationValue, frontValue, addressOfWords, powerOfWords, assembled, macResourceKnown, macResourceValue, macResourceReadReply, macResourceWriteReply, headerLenReply, updateLenReply};
 
 // The cursor's bit, and the words of the fields before the address.
 fn first_words(at: usize, h: MacResource) -> [u64; 6]
@@ -200,22 +200,76 @@ fn allocation_value(words: &[u64]) -> ChannelAllocation
     ChannelAllocation::Element(channel_allocation::channel_allocation_value(&words[1..10]))
 }
 
-// The MAC-RESOURCE of words whose codes are known.
-pub(crate) fn mac_resource_value(words: &[u64]) -> MacResource
+// The fields before the address.
+struct Front {
+    fill_bits: bool,
+    pos_of_grant: u8,
+    encryption_mode: u8,
+    random_access_flag: bool,
+    length_ind: u8,
+}
+
+fn front_value(words: &[u64]) -> Front
     requires { ⌜ 25 ≤ length (now words) ⌝ }
-    ensures { λ r. ⌜ r ≡ macResourceValue (now (words .entry)) ⌝ }
+    ensures { λ r. ⌜ r ≡ frontValue (now (words .entry)) ⌝ }
 {
-    MacResource {
+    Front {
         fill_bits: words[0] != 0,
         pos_of_grant: record::number8(words[1]),
         encryption_mode: record::number8(words[2]),
         random_access_flag: words[3] != 0,
         length_ind: record::number8(words[4]),
-        addr: address::address_value(words[5], words[6], words[7], words[8]),
-        power_control_element: power_value(words[9], record::number8(words[10])),
-        slot_granting_element: granting_value(&words[11..15]),
-        chan_alloc_element: allocation_value(&words[15..25]),
     }
+}
+
+fn address_of(words: &[u64]) -> TetraAddress
+    requires { ⌜ 25 ≤ length (now words) ⌝ }
+    ensures { λ r. ⌜ r ≡ addressOfWords (now (words .entry)) ⌝ }
+{
+    address::address_value(words[5], words[6], words[7], words[8])
+}
+
+fn power_of(words: &[u64]) -> PowerControl
+    requires { ⌜ 25 ≤ length (now words) ⌝ }
+    ensures { λ r. ⌜ r ≡ powerOfWords (now (words .entry)) ⌝ }
+{
+    power_value(words[9], record::number8(words[10]))
+}
+
+fn assembled(
+    f: Front,
+    addr: TetraAddress,
+    power_control_element: PowerControl,
+    slot_granting_element: SlotGranting,
+    chan_alloc_element: ChannelAllocation,
+) -> MacResource
+    ensures { λ r. ⌜ r ≡ assembled f addr «power_control_element» «slot_granting_element» «chan_alloc_element» ⌝ }
+{
+    MacResource {
+        fill_bits: f.fill_bits,
+        pos_of_grant: f.pos_of_grant,
+        encryption_mode: f.encryption_mode,
+        random_access_flag: f.random_access_flag,
+        length_ind: f.length_ind,
+        addr,
+        power_control_element,
+        slot_granting_element,
+        chan_alloc_element,
+    }
+}
+
+// The MAC-RESOURCE of words whose codes are known.
+pub(crate) fn mac_resource_value(words: &[u64]) -> MacResource
+    requires { ⌜ 25 ≤ length (now words) ⌝ }
+    ensures { λ r. ⌜ r ≡ macResourceValue (now (words .entry)) ⌝ }
+{
+    assembled(
+        front_value(words),
+        address_of(words),
+        power_of(words),
+        granting_value(&words[11..15]),
+        allocation_value(&words[15..25]),
+    )
 }
 
 #[no_mangle]
@@ -257,7 +311,14 @@ pub extern "C" fn tetra_mac_resource_write(
     if !mac_resource_known(words) {
         return record::MALFORMED;
     }
-    let h = mac_resource_value(words);
+    // As in mac_resource_value. Each part is small, so that the compiler puts it here and no header goes through memory.
+    let h = assembled(
+        front_value(words),
+        address_of(words),
+        power_of(words),
+        granting_value(&words[11..15]),
+        allocation_value(&words[15..25]),
+    );
     let done = mac_resource::mac_resource::to_bitbuf(s, Cursor { start, pos, end }, h);
     record::moved(out, done)
 }

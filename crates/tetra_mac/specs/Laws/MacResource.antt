@@ -9,6 +9,7 @@ use lib.ListN.{length, take, drop}
 use lib.Seq.{sets}
 use Rattle.tetra_core.specs.declared.bitbuffer.Cursor.{Cursor}
 use Rattle.tetra_core.specs.declared.refusal.Refusal.{Refusal}
+use Rattle.tetra_core.specs.declared.address.TetraAddress.{TetraAddress}
 use Rattle.codec.specs.Cases.{flag-back}
 use Rattle.tetra_fields.specs.BasicSlotgrant.{readSlotgrant}
 use Rattle.tetra_fields.specs.ChannelAllocation.{readChannelAllocation}
@@ -24,9 +25,10 @@ use Rattle.mac_resource.specs.declared.elements.ChannelAllocation.{ChannelAlloc
 use Rattle.mac_resource.specs.declared.mac_resource.MacResource.{MacResource}
 use Rattle.mac_resource.specs.declared.mac_resource.MacResourceAnswer.{MacResourceAnswer}
 use Rattle.mac_resource.specs.declared.mac_resource.MacResourceRead.{MacResourceRead}
+use Rattle.tetra_mac.specs.declared.resource.Front.{Front}
 use Rattle.tetra_mac.specs.Reply.{valueIf}
 use Rattle.tetra_mac.specs.Slotgrant.{delayCount}
-use Rattle.tetra_mac.specs.MacResource.{powerPresent, powerLevel, powerValue, grantingWords, grantingKnown, grantingValue, allocationWords, allocationKnown, allocationValue, macResourceWords, macResourceKnown, macResourceValue, macResourceOfWords}
+use Rattle.tetra_mac.specs.MacResource.{powerPresent, powerLevel, powerValue, grantingWords, grantingKnown, grantingValue, allocationWords, allocationKnown, allocationValue, macResourceWords, macResourceKnown, frontValue, addressOfWords, powerOfWords, assembled, part, macResourceValue, macResourceOfWords}
 use Rattle.tetra_mac.specs.Laws.Address.{AddressTyped, address-kept}
 use Rattle.tetra_mac.specs.Laws.Slotgrant.{slotgrant-kept}
 use Rattle.tetra_mac.specs.Laws.ChannelAllocation.{ChannelAllocationTyped, channel-allocation-kept, channel-allocation-placed}
@@ -172,3 +174,10 @@ mac-resource-bit s c e a =
     let b : macResourceBit (macResourceAt s c .answer) ≤ 65536 =
     bit-within readMacResource _ _ _ (λ (d : MacResourceRead). macResourceBit (d .answer)) (λ c h. refl) (λ c r. refl) (mac-resource-placed 0) s c in
     rw (← e, a) at b
+
+-- a header that was put together of its parts
+pub value-of-parts : (ws : List ℕ) {h : MacResource} {f : Front} {a : TetraAddress} {p : PowerControl} {g : SlotGranting} {c : ChannelAllocation}
+    → h ≡ assembled f a p g c → f ≡ frontValue ws → a ≡ addressOfWords ws → p ≡ powerOfWords ws → g ≡ grantingValue (part ws 11 4)
+    → c ≡ allocationValue (part ws 15 10) → h ≡ macResourceValue ws
+unfolding macResourceValue
+value-of-parts ws h f a p g c = rw (h, f, a, p, g, c)
