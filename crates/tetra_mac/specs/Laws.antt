@@ -5,6 +5,7 @@
 -- Reply    read-..         the returns of a call that reads
 --          write-.., record-..   of a call that writes
 --          count-..        of a call that counts bits
+-- Block    put-..          words put behind others, or into a part of out
 pub mod Placed
 pub mod Reply
 pub mod Bits
