@@ -5,7 +5,6 @@
 -- Reply    read-..         the returns of a call that reads
 --          write-.., record-..   of a call that writes
 --          count-..        of a call that counts bits
--- Block    put-..          words put behind others, or into a part of out
 pub mod Placed
 pub mod Reply
 pub mod Bits
@@ -16,4 +15,3 @@ pub mod AccessAssign
 pub mod MacAccess
 pub mod MacData
 pub mod MacResource
-pub mod Block
