@@ -15,4 +15,3 @@ pub mod AccessAssign
 pub mod MacAccess
 pub mod MacData
 pub mod MacResource
-pub mod Block

@@ -1,6 +1,5 @@
 pub mod Reply
 pub mod Bits
-pub mod Block
 pub mod Slotgrant
 pub mod ChannelAllocation
 pub mod Address

@@ -9,10 +9,10 @@ ghost use lib.Seq.{sets};
 ghost use Rattle.tetra_mac.specs.Reply.{replied, statusOf, givenReply, deniedReply, movedReply};
 
 // The status of a call whose record or out is too short, or whose record has a code that no case has.
-pub(crate) const MALFORMED: u64 = 255;
+pub const MALFORMED: u64 = 255;
 
 // Puts words into out from the index at on.
-pub(crate) fn put_words(out: &mut [u64], at: usize, words: &[u64])
+pub fn put_words(out: &mut [u64], at: usize, words: &[u64])
     requires { ⌜ at + length (now words) ≤ length (now out) ⌝ }
     ensures { λ r. ⌜ now (out .exit) ≡ sets (now (out .entry)) at (now (words .entry)) ⌝ }
 {
@@ -34,7 +34,7 @@ pub(crate) fn give(out: &mut [u64], at: usize, words: &[u64]) -> u64
 }
 
 // The status of a refused read: its number, and its bit behind the eight bits of the number.
-pub(crate) fn status(r: Refusal) -> u64
+pub fn status(r: Refusal) -> u64
     requires { ⌜ r .bit ≤ 65536 ⌝ }
     ensures { λ n. ⌜ n ≡ statusOf r ⌝ }
 {
@@ -51,7 +51,7 @@ pub(crate) fn deny(out: &mut [u64], at: usize, r: Refusal) -> u64
 }
 
 // Puts the cursor's bit into out: the status of a call that writes.
-pub(crate) fn moved(out: &mut [u64], m: Moved) -> u64
+pub fn moved(out: &mut [u64], m: Moved) -> u64
     requires { ⌜ 0 < length (now out) ⌝ }
     ensures { λ n. ⌜ replied n (now (out .exit)) ≡ movedReply (now (out .entry)) m ⌝ }
 {

@@ -122,7 +122,7 @@ fn put_allocation(out: &mut [u64], a: ChannelAllocation)
 }
 
 // Puts the cursor's bit and the words of a MAC-RESOURCE into out.
-pub(crate) fn give_mac_resource(out: &mut [u64], at: usize, h: MacResource) -> u64
+pub fn give_mac_resource(out: &mut [u64], at: usize, h: MacResource) -> u64
     requires { ⌜ 26 ≤ length (now out) ⌝ }
     ensures { λ r. ⌜ replied r (now (out .exit)) ≡ givenReply (now (out .entry)) at (macResourceWords h) ⌝ }
 {
@@ -156,7 +156,7 @@ fn allocation_known(words: &[u64]) -> bool
 }
 
 // Whether words are long enough for a MAC-RESOURCE and have no unknown code.
-pub(crate) fn mac_resource_known(words: &[u64]) -> bool
+pub fn mac_resource_known(words: &[u64]) -> bool
     ensures { λ r. ⌜ r ≡ macResourceKnown (now (words .entry)) ⌝ }
 {
     if words.len() < 25 {
@@ -259,7 +259,7 @@ fn assembled(
 }
 
 // The MAC-RESOURCE of words whose codes are known.
-pub(crate) fn mac_resource_value(words: &[u64]) -> MacResource
+pub fn mac_resource_value(words: &[u64]) -> MacResource
     requires { ⌜ 25 ≤ length (now words) ⌝ }
     ensures { λ r. ⌜ r ≡ macResourceValue (now (words .entry)) ⌝ }
 {
