@@ -58,15 +58,13 @@ pub join-holds : {xs ys : List Bool} {n m : ℕ} {p q r : Piece} → Holds xs n 
     → Holds (xs ++ ys) (n + m) r
 join-holds a b c = rw (a .is, b .is, a .size, b .size) at c
 
--- a piece that was put, and bits that were put behind it
-module _ (s : List ℕ) (p : ℕ) {t : List ℕ} {xs : List Bool} {n : ℕ} {q : Piece} (h : Holds xs n q) (e : t ≡ putBits s p (pieceBits q)) where
-  pub put-first : t ≡ putBits s p xs
-  put-first = rw (← h .is) e
+-- bits that were put, and others that were put behind them
+pub put-behind : (s : List ℕ) (p n : ℕ) {t u : List ℕ} (xs ys : List Bool) → length xs ≡ n → p + n ≤ 8 * length s → t ≡ putBits s p xs
+    → u ≡ putBits t (p + n) ys → u ≡ putBits s p (xs ++ ys)
+put-behind s p n xs ys l h e f = rw (← putBits-append s p xs ys (omega arith), l, ← e) f
 
-  pub put-then : {u : List ℕ} (ys : List Bool) → p + q .bits ≤ 8 * length s → u ≡ putBits t (p + q .bits) ys → u ≡ putBits s p (xs ++ ys)
-  put-then ys l f =
-      let m : length xs ≡ q .bits = ap length (sym (h .is)) ∙ length-bitsOfNat (q .bits) (q .value) in
-      rw (← putBits-append s p xs ys (omega arith), m, ← put-first) f
+pub piece-size : (p : Piece) → length (pieceBits p) ≡ p .bits
+piece-size p = length-bitsOfNat (p .bits) (p .value)
 
 -- the flags, and the channel allocation behind them where there is one
 module _ (e : Elements) where

@@ -1,7 +1,6 @@
 // Clause 21.4.3.1, the optional elements: power control, slot granting and channel allocation, each behind a flag of its own.
 use crate::piece;
 use crate::piece::Piece;
-use bits::word;
 use codec::Ahead;
 use tetra_core::bitbuffer::Cursor;
 use tetra_core::refusal;
@@ -14,14 +13,15 @@ use tetra_fields::fields::channel_allocation::ChanAllocElement;
 use tetra_fields::fields::channel_allocation::ChannelAllocationPart;
 ghost use mathlib.Core.Path.{_≡_};
 ghost use mathlib.Core.Bool.{true};
-ghost use Prim.Native.Nat.{_+_, _*_, _≤_};
+ghost use mathlib.Core.List.{_++_};
+ghost use Prim.Native.Nat.{_+_, _*_, _^_, _≤_, _<_};
 ghost use lib.ListN.{length};
 ghost use Rattle.bits.specs.Bits.{putBits};
 ghost use Rattle.tetra_core.specs.Laws.Windows.{Good};
 ghost use Rattle.codec.specs.Header.{within, Reads};
 ghost use Rattle.codec.specs.Ahead.{Held, NextBits, Ready, ReadsNext};
 ghost use Rattle.codec.specs.Row.{rowBits};
-ghost use Rattle.mac_resource.specs.Piece.{Holds};
+ghost use Rattle.mac_resource.specs.Piece.{pieceBits, Holds};
 ghost use Rattle.mac_resource.specs.Elements.{readPower, powerOut, readGranting, grantingOut, readAllocation, allocationOut, readElements, elementsOut, powerRefusal, grantingRefusal, allocationRefusal, elementsRefusal, powerLen, grantingLen, allocationLen, elementsLen, allocationLenRefusal, powerRow, grantingRow, flagRow, flagsBits, flagsLen, elementsBits};
 
 pub enum PowerControl {
@@ -348,18 +348,17 @@ fn flags_piece(e: Elements) -> Piece
     piece::joined(power_piece(power), behind)
 }
 
-// Puts the three flags with their elements into s from pos on.
-pub(crate) fn put_elements(s: &mut [u8], pos: usize, e: Elements)
-    requires { ⌜ (pos + elementsLen e ≤ 8 * length (now s)) × (pos + elementsLen e ≤ 65536) × (elementsRefusal e ≡ 0) ⌝ }
-    ensures { λ r. ⌜ now (s .exit) ≡ putBits (now (s .entry)) pos (elementsBits e) ⌝ }
+// Puts a piece, and behind it the three flags with their elements, into s from pos on.
+pub(crate) fn put_elements(s: &mut [u8], pos: usize, front: Piece, e: Elements)
+    requires { ⌜ (front .value < 2 ^ front .bits) × (front .bits ≤ 64) × (pos + (front .bits + elementsLen e) ≤ 8 * length (now s)) × (pos + (front .bits + elementsLen e) ≤ 65536) × (elementsRefusal e ≡ 0) ⌝ }
+    ensures { λ r. ⌜ now (s .exit) ≡ putBits (now (s .entry)) pos (pieceBits front ++ elementsBits e) ⌝ }
 {
     let flags = flags_piece(e);
-    let n = flags.bits;
-    let x = flags.value;
-    word::put_bits(s, pos, n, x);
+    piece::put_both(s, pos, front, flags);
     let allocation = e.chan_alloc_element;
     let ChannelAllocation::Element(a) = allocation else {
         return;
     };
+    let n = front.bits + flags.bits;
     channel_allocation::put_channel_allocation(s, pos + n, a);
 }

@@ -387,13 +387,11 @@ pub fn put_mac_resource(s: &mut [u8], pos: usize, h: MacResource, length_ind: u8
     ensures { λ r. ⌜ now (s .exit) ≡ putBits (now (s .entry)) pos (headerBits h «length_ind» «fill_bits») ⌝ }
 {
     let front = front_piece(h, length_ind, fill_bits);
-    let n = front.bits;
-    let x = front.value;
-    word::put_bits(s, pos, n, x);
     if is_null_pdu(h) {
+        word::put_bits(s, pos, front.bits, front.value);
         return;
     }
-    elements::put_elements(s, pos + n, elements_of(h));
+    elements::put_elements(s, pos, front, elements_of(h));
 }
 
 // Writes a header at the cursor.

@@ -1,0 +1,56 @@
+use borrow.Author.Needs.{needs}
+use native.Mathlib.Omega.{arith}
+use mathlib.Core.Path.{ap, _∙_}
+use lib.ListN.{length}
+use Rattle.bits.specs.Laws.Writes.{length-putBits}
+use Rattle.mac_resource.specs.Piece.{pieceBits}
+use Rattle.mac_resource.proofs.Pieces.{put-behind, piece-size}
+use Rattle.mac_resource.proofs.piece.put_both.Statement.{statement}
+use Rattle.mac_resource.proofs.piece.put_both.Tie as tie
+
+joined-requires : tie.Need-joined-requires
+joined-requires c κs = let d = c .before .before .pre in
+    (d .0, d .1, omega arith)
+
+put-bits-requires : tie.Need-put-bits-requires
+put-bits-requires c κs =
+    let j = c .before .joined .ensures in
+    let d = c .before .before .before .before .pre in
+    (omega arith, omega arith, omega arith, j .small)
+
+returns : tie.Need-returns
+returns c = let p = c .before .before in
+    rw (← p .before .before .joined .ensures .is) (p .put-bits .ensures)
+
+put-bits-requires-2 : tie.Need-put-bits-requires-2
+put-bits-requires-2 c κs = let d = c .before .before .before .pre in
+    (omega arith, d .2, omega arith, d .0)
+
+put-bits-requires-3 : tie.Need-put-bits-requires-3
+put-bits-requires-3 c κs =
+    let p = c .before .before .before in
+    let d = p .before .before .before .before .pre in
+    let l = ap length (p .put-bits2 .ensures) ∙ length-putBits _ _ _ in
+    (omega arith, d .3, omega arith, d .1)
+
+returns-2 : tie.Need-returns-2
+returns-2 c =
+    let q = c .before .before in
+    let p = q .before .before .before .before in
+    let d = p .before .before .before .before in
+    put-behind _ _ _ (pieceBits (d .args .a)) (pieceBits (d .args .b)) (piece-size (d .args .a)) (omega arith) (p .put-bits2 .ensures) (q .put-bits3 .ensures)
+
+pub put-both-spec : {M : Type 1} → statement M
+put-both-spec =
+    tie.close
+    (tie.spec
+    (λ c. search needs)
+    joined-requires
+    put-bits-requires
+    (λ c. search needs)
+    returns
+    put-bits-requires-2
+    (λ c. search needs)
+    put-bits-requires-3
+    (λ c. search needs)
+    returns-2)
