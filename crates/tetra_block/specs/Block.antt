@@ -49,7 +49,7 @@ entryWords (BlockEntry.Resource p) = resourceWords p
 entryWords (BlockEntry.Null bit) = 2 ∷ bit ∷ 0 ∷ 0 ∷ 0 ∷ 0 ∷ 0 ∷ 0 ∷ noHeader
 entryWords (BlockEntry.Refused p) = refusedWords p
 
--- ---- the call that reads: a step that is refused puts nothing into out
+-- ---- the call that reads. No cursor is replied, since the entry has its bits; a step that is refused puts nothing into out
 
 abbrev pub stepReply : List ℕ → ℕ → StepAnswer → Reply
 stepReply out bit (StepAnswer.Entry e) = replied 0 (putFirst out (entryWords e))
