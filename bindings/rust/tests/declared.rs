@@ -64,7 +64,7 @@ fn declared() {
         let text = std::fs::read_to_string(entry.expect("a file").path()).expect("a file of text");
         there.extend(functions(&text, "pub extern \"C\" fn ", source));
     }
-    assert!(there.len() >= 18);
+    assert!(there.len() >= 21);
     assert_eq!(there, functions(&file("bindings/rust/src/sys.rs"), "pub fn ", rust));
     assert_eq!(there, functions(&file("bindings/c/tetra_mac.h"), "\nuint64_t ", c));
 }
