@@ -3,16 +3,17 @@ use crate::case::{Call, Case, Class};
 use crate::cases::{self, Rng};
 use crate::original::{self, caught};
 use crate::ours::{KINDS, Kind, Window};
-use crate::{names, sweep};
+use crate::{blocks, demand3, names, sweep};
 use std::collections::BTreeMap;
 use tetra_core::BitBuffer;
 
-const CLASSES: [(Class, &str); 11] = [
+const CLASSES: [(Class, &str); 12] = [
     (Class::Equal, "equal"),
     (Class::Refused, "refused"),
     (Class::Refused3, "refused, 3"),
     (Class::Refused5, "refused, 5"),
     (Class::Refused35, "refused, 3 5"),
+    (Class::Rule, "rule"),
     (Class::Listed(1), "1"),
     (Class::Listed(2), "2"),
     (Class::Listed(6), "6"),
@@ -22,7 +23,7 @@ const CLASSES: [(Class, &str); 11] = [
 ];
 
 #[derive(Default)]
-struct Counts {
+pub struct Counts {
     /// By the call's name; a call's row stands where it first came.
     rows: Vec<(&'static str, BTreeMap<Class, u64>)>,
     /// The smallest case of each class that is a difference, and of those that are wrong.
@@ -31,16 +32,16 @@ struct Counts {
 }
 
 impl Counts {
-    fn add(&mut self, case: Case) {
+    pub fn add(&mut self, case: Case) {
         let class = case.class();
-        let name = case.call.name();
+        let name = case.name();
         let at = self.rows.iter().position(|(n, _)| *n == name).unwrap_or_else(|| {
             self.rows.push((name, BTreeMap::new()));
             self.rows.len() - 1
         });
         *self.rows[at].1.entry(class).or_default() += 1;
         self.all += 1;
-        let plain = matches!(class, Class::Equal | Class::Refused);
+        let plain = matches!(class, Class::Equal | Class::Refused | Class::Rule);
         if !plain && self.smallest.get(&class).is_none_or(|c| case.size() < c.size()) {
             self.smallest.insert(class, case);
         }
@@ -163,7 +164,7 @@ fn lengths(g: &mut Rng, c: &mut Counts) {
     put(Call::UpdateLen, [record, vec![content]].concat());
 }
 
-/// At least so many cases: the sweeps, or an even part of them that is at most half, then random ones.
+/// At least so many cases: the sweeps, or an even part of them that is at most half, then random ones. Then the calls on a tenth as many blocks.
 pub fn run(least: u64, seed: u64) -> bool {
     match names::compared() {
         Ok(n) => println!("{n} codes of four enums: their cases have the original's names"),
@@ -193,5 +194,8 @@ pub fn run(least: u64, seed: u64) -> bool {
         bits(&mut g, &mut c);
         lengths(&mut g, &mut c);
     }
-    c.show()
+    let of_blocks = least.div_ceil(10);
+    blocks::all(&mut Rng(seed), of_blocks, &mut c);
+    let right = c.show();
+    demand3::run(of_blocks, seed) && right
 }

@@ -1,13 +1,19 @@
 //! The original as judge: a live comparison and a benchmark, over the bindings of this port.
+mod altered;
 mod bench;
+mod block;
+mod blocks;
 mod bound;
 mod case;
 mod cases;
 mod compare;
+mod demand3;
 mod kind;
+mod model;
 mod names;
 mod original;
 mod ours;
+mod runs;
 mod sweep;
 
 fn number(words: &[String], at: usize, otherwise: u64) -> u64 {
