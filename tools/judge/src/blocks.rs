@@ -22,8 +22,12 @@ pub fn size(g: &mut Rng) -> usize {
 /// A header for an add: as for any write, and more often than not one that is accepted.
 pub fn header(g: &mut Rng) -> Vec<u64> {
     let mut r = cases::record(g, Kind::Resource);
-    if g.once_in(4) {
+    if g.once_in(6) {
         return r;
+    }
+    if g.once_in(2) {
+        // short, so that a block has room for several
+        r[9..].fill(0);
     }
     // the values that are refused, one by one
     let fitting = |v: u64, bits: u32| v & ((1 << bits) - 1);
@@ -44,13 +48,13 @@ pub fn header(g: &mut Rng) -> Vec<u64> {
 /// What to add where so many bits are left: the length's code, the bits of content and the bytes that have them. It has no bits, a few, many, or
 /// those that fill an octet or the block, give or take a few; now and then its bytes are too few.
 pub fn added(g: &mut Rng, record: &[u64], left: usize) -> (u64, usize, Vec<u8>) {
-    let length = if g.once_in(8) { 62 + g.flag() } else { 0 };
+    let length = if g.once_in(16) { 62 + g.flag() } else { 0 };
     let header = model::header_bits(record);
-    let most = [1, 9, 60, 200, 500][g.below(5) as usize];
+    let most = [1, 9, 9, 40, 40, 80, 200, 500][g.below(8) as usize];
     let some = g.below(most) as usize;
-    let content_bits = match g.below(6) {
+    let content_bits = match g.below(12) {
         0 => left.saturating_sub(header + g.below(10) as usize),
-        1 => (header + some).div_ceil(8) * 8 - header,
+        1 | 2 => (header + some).div_ceil(8) * 8 - header,
         _ => some,
     };
     let len = content_bits.div_ceil(8) + g.below(3) as usize;
