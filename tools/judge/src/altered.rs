@@ -1,5 +1,5 @@
-//! "Whatever bits anybody puts into one PDU of a downlink block, sparing that PDU's type, length and address type", or into several: the block
-//! before and after, and what the walk of this port must give then. Where PDUs begin and end is asked of the rules (`model`).
+//! "Whatever bits anybody puts into one PDU of a downlink block, sparing that PDU's type, length and address type", or into several: the
+//! block before and after, and what the walk of this port must give then. Where PDUs begin and end is asked of the rules (`model`).
 use crate::cases::Rng;
 use crate::model;
 use crate::ours::Refusal;

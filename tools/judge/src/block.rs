@@ -1,6 +1,6 @@
-//! The calls on a block. The original has none: its side is document 01's rules for where a PDU ends (`model`), and inside of a PDU the original's
-//! own reading and writing of header, length, content and null PDU. This port is called through C and through its Rust bindings, which must say
-//! the same.
+//! The calls on a block. The original has none: its side is document 01's rules for where a PDU ends (`model`), and inside of a PDU the
+//! original's own reading and writing of header, length, content and null PDU. This port is called through C and through its Rust bindings,
+//! which must say the same.
 use crate::blocks;
 use crate::case::{Case, Ours, Theirs};
 use crate::model::{self, Frame};
@@ -12,7 +12,7 @@ use tetra_mac::block::{self, BlockEntry};
 use tetra_mac::{MacResource, Record, sys};
 use tetra_pdus::umac::pdus::mac_resource;
 
-/// What is added: a case's numbers are the record, the length's code (counted, if it is none), the bits of content and the bytes that have it.
+/// What is added: a case's numbers are the record, the length's code (counted, if it is none), the bits of content and their bytes.
 pub struct Add<'a> {
     pub record: &'a [u64],
     pub length: u64,
@@ -74,8 +74,8 @@ pub fn theirs_step(c: &Case, b: &mut BitBuffer) -> Theirs {
     }
 }
 
-/// An add: length and fill of `update_len_and_fill_ind`, the header, the content copied, a 1 and zeros. Only where the PDU takes the rest of the
-/// block, by a mark or because its octets would end behind it, the fill is the rule's: "the PDU's end less header and content".
+/// An add: length and fill of `update_len_and_fill_ind`, the header, the content copied, a 1 and zeros. Only where the PDU takes the rest of
+/// the block, by a mark or because its octets would end behind it, the fill is the rule's: "the PDU's end less header and content".
 pub fn theirs_add(c: &Case, b: &mut BitBuffer) -> Theirs {
     let (p, n, a) = (c.window.pos, c.window.end, Add::of(&c.numbers));
     if !model::writable(c.bytes.len(), n, p) || a.content_bits > 8 * a.content.len() {
@@ -176,7 +176,7 @@ pub fn ours_step(c: &Case) -> Option<Ours> {
     }
 }
 
-/// The bit after a call that writes, if C and bindings say the same and leave the same bytes; a refused C call gives the bit that it was given.
+/// The bit after a call that writes, if C and bindings say the same and leave the same bytes; a refused C call gives the bit that it got.
 fn written(
     s: &mut [u8],
     p: usize,

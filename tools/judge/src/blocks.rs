@@ -8,7 +8,7 @@ use crate::ours::{Kind, Window};
 use tetra_mac::block::{self, LengthIndication};
 use tetra_mac::{MacResource, Record};
 
-/// A block's bits: those of the logical channels more often than others (124 half slot, 268 full slot, 432 and more with other modulations).
+/// A block's bits: those of a half slot (124), a full slot (268) and the longest (488) more often than others.
 pub fn size(g: &mut Rng) -> usize {
     match g.below(8) {
         0 | 1 => 124,
@@ -45,8 +45,8 @@ pub fn header(g: &mut Rng) -> Vec<u64> {
     r
 }
 
-/// What to add where so many bits are left: the length's code, the bits of content and the bytes that have them. It has no bits, a few, many, or
-/// those that fill an octet or the block, give or take a few; now and then its bytes are too few.
+/// What to add where so many bits are left: the length's code, the bits of content and the bytes that have them. It has no bits, a few, many,
+/// or those that fill an octet or the block, give or take a few; now and then its bytes are too few.
 pub fn added(g: &mut Rng, record: &[u64], left: usize) -> (u64, usize, Vec<u8>) {
     let length = if g.once_in(16) { 62 + g.flag() } else { 0 };
     let header = model::header_bits(record);

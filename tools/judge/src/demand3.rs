@@ -5,17 +5,21 @@ use crate::cases::{self, Rng};
 use crate::runs::Run;
 use tetra_mac::block::BlockEntry;
 
-/// What was seen of one kind of blocks, and what was wrong, smallest first.
+/// What was seen of one kind of blocks.
 #[derive(Default)]
 struct Row {
     blocks: u64,
+    /// Adds that were accepted, and those that were not.
     accepted: u64,
     refused_adds: u64,
+    /// Entries of the walks before anything was altered.
     read: u64,
     null: u64,
     refused: u64,
+    /// PDUs that were altered, and those of them that were read before and are refused now.
     altered: u64,
     refused_then: u64,
+    /// Blocks of which something is wrong.
     wrong: u64,
 }
 

@@ -1,6 +1,7 @@
 //! The original as judge: a live comparison and a benchmark, over the bindings of this port.
 mod altered;
 mod bench;
+mod bench_block;
 mod block;
 mod blocks;
 mod bound;

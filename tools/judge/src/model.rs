@@ -1,5 +1,5 @@
-//! Document 01's rules of a block, plainly: over bits one by one, and with nothing of this port. The original has no blocks; what a header says
-//! is asked of the original elsewhere. Each rule stands above what it became.
+//! Document 01's rules of a block, plainly: over bits one by one, and with nothing of this port. The original has no blocks; what a header
+//! says is asked of the original elsewhere. Each rule stands above what it became.
 
 /// "0 to 488 bits".
 pub const MOST_BITS: usize = 488;
@@ -71,7 +71,7 @@ pub fn extent(block: &[bool], p: usize) -> usize {
     }
 }
 
-/// The first bits of all PDUs of the walk, and where the rest begins: "the bits after a null PDU, or from p where the walk ended otherwise".
+/// The first bits of all PDUs of the walk, and where the rest begins: "after a null PDU, or from p where the walk ended otherwise".
 pub fn walk(block: &[bool]) -> (Vec<usize>, usize) {
     let (mut all, mut p) = (vec![], 0);
     loop {
@@ -98,7 +98,7 @@ pub fn content_end(block: &[bool], header_end: usize, end: usize, fill: bool) ->
     if fill { (header_end..end).rev().find(|i| block[*i]) } else { Some(end) }
 }
 
-/// The bits of a header by its record: 16, the address, three flags and their elements. An element in the augmented direction "counts 25 or 27".
+/// The bits of a header by its record: 16, the address, three flags and their elements. One in the augmented direction "counts 25 or 27".
 pub fn header_bits(r: &[u64]) -> usize {
     let address = match r[5] {
         0 => return 16,
@@ -111,8 +111,8 @@ pub fn header_bits(r: &[u64]) -> usize {
     16 + address + element(r[9], 4) + element(r[11], 8) + element(r[15], if r[22] == 0 { 27 } else { 25 })
 }
 
-/// The end of a PDU of so many bits of header and content that is added at bit p: whole octets where it is counted, and not past N; "a marked
-/// PDU takes the rest of the block".
+/// The end of a PDU of so many bits of header and content that is added at bit p: whole octets where it is counted, and not past N; "a
+/// marked PDU takes the rest of the block".
 pub fn added_end(marked: bool, p: usize, n: usize, total: usize) -> usize {
     if marked { n } else { n.min(p + total.div_ceil(8) * 8) }
 }

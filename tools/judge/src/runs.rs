@@ -1,4 +1,5 @@
-//! "A writer's run is a list of adds (content from other bytes) and finishes on one block of N bits, from bit 0 and any bytes": what it must leave.
+//! "A writer's run is a list of adds (content from other bytes) and finishes on one block of N bits, from bit 0 and any bytes": what it must
+//! leave.
 use crate::altered::walked;
 use crate::blocks;
 use crate::cases::{self, Rng};
