@@ -1,8 +1,9 @@
 //! Whole blocks in the benchmark: a walk to the end, and adds with a finish, of blocks of one, three and many PDUs.
 //!
-//! The original has no blocks. Beside a walk of this port stands a loop over the original that does the same work: it peeks at type, length and
-//! address type, sets the window to the PDU, reads the header there and looks for the last 1 of the fill from the end, 64 bits at a time. Beside
-//! adds and a finish: `update_len_and_fill_ind`, the header, the content copied and the fill, for each PDU, then the null PDU and fill.
+//! The original has no blocks. Beside a walk of this port stands a loop over the original that does the same work: it peeks at type, length
+//! and address type, sets the window to the PDU, reads the header there and looks for the last 1 of the fill from the end, 64 bits at a
+//! time. Beside adds and a finish: `update_len_and_fill_ind`, the header, the content copied and the fill, for each PDU, then the null PDU
+//! and fill.
 use crate::bench::{Operation, calls};
 use crate::block::put_fill;
 use crate::model;

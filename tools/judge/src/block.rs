@@ -74,8 +74,8 @@ pub fn theirs_step(c: &Case, b: &mut BitBuffer) -> Theirs {
     }
 }
 
-/// An add: length and fill of `update_len_and_fill_ind`, the header, the content copied, a 1 and zeros. Only where the PDU takes the rest of
-/// the block, by a mark or because its octets would end behind it, the fill is the rule's: "the PDU's end less header and content".
+/// An add: length and fill of `update_len_and_fill_ind`, the header, the content copied, a 1 and zeros. Only where the PDU takes the rest
+/// of the block, by a mark or because its octets would end behind it, the fill is the rule's: "the PDU's end less header and content".
 pub fn theirs_add(c: &Case, b: &mut BitBuffer) -> Theirs {
     let (p, n, a) = (c.window.pos, c.window.end, Add::of(&c.numbers));
     if !model::writable(c.bytes.len(), n, p) || a.content_bits > 8 * a.content.len() {

@@ -45,8 +45,8 @@ pub fn header(g: &mut Rng) -> Vec<u64> {
     r
 }
 
-/// What to add where so many bits are left: the length's code, the bits of content and the bytes that have them. It has no bits, a few, many,
-/// or those that fill an octet or the block, give or take a few; now and then its bytes are too few.
+/// What to add where so many bits are left: the length's code, the bits of content and the bytes that have them. It has no bits, a few,
+/// many, or those that fill an octet or the block, give or take a few; now and then its bytes are too few.
 pub fn added(g: &mut Rng, record: &[u64], left: usize) -> (u64, usize, Vec<u8>) {
     let length = if g.once_in(16) { 62 + g.flag() } else { 0 };
     let header = model::header_bits(record);

@@ -3,7 +3,7 @@ use crate::case::{Call, Case, Class};
 use crate::cases::{self, Rng};
 use crate::original::{self, caught};
 use crate::ours::{KINDS, Kind, Window};
-use crate::{blocks, demand3, names, sweep};
+use crate::{blocks, demand3, names, sweep, sweep_block};
 use std::collections::BTreeMap;
 use tetra_core::BitBuffer;
 
@@ -164,7 +164,22 @@ fn lengths(g: &mut Rng, c: &mut Counts) {
     put(Call::UpdateLen, [record, vec![content]].concat());
 }
 
-/// At least so many cases: the sweeps, or an even part of them that is at most half, then random ones. Then the calls on a tenth as many blocks.
+/// Cases in turn: all, or an even part of them that is at most half of so many.
+fn in_turn(all: fn(&mut dyn FnMut(Case)), least: u64, seed: u64, c: &mut Counts) {
+    let mut total = 0u64;
+    all(&mut |_| total += 1);
+    let stride = (2 * total).div_ceil(least.max(1)).max(1);
+    let (before, mut at) = (c.all, seed);
+    all(&mut |case| {
+        at += 1;
+        if at % stride == 0 {
+            c.add(case);
+        }
+    });
+    println!("seed {seed}: {} cases in turn, of {total}", c.all - before);
+}
+
+/// At least so many cases: those in turn, then random ones. Then calls on a tenth as many blocks, and demand 3 over as many.
 pub fn run(least: u64, seed: u64) -> bool {
     match names::compared() {
         Ok(n) => println!("{n} codes of four enums: their cases have the original's names"),
@@ -173,18 +188,8 @@ pub fn run(least: u64, seed: u64) -> bool {
             return false;
         }
     }
-    let mut total = 0u64;
-    sweep::all(&mut |_| total += 1);
-    let stride = (2 * total).div_ceil(least.max(1)).max(1);
     let mut c = Counts::default();
-    let mut at = seed;
-    sweep::all(&mut |case| {
-        at += 1;
-        if at % stride == 0 {
-            c.add(case);
-        }
-    });
-    println!("seed {seed}: {} cases in turn, of {total}", c.all);
+    in_turn(sweep::all, least, seed, &mut c);
     let mut g = Rng(seed);
     while c.all < least {
         for k in KINDS {
@@ -195,6 +200,7 @@ pub fn run(least: u64, seed: u64) -> bool {
         lengths(&mut g, &mut c);
     }
     let of_blocks = least.div_ceil(10);
+    in_turn(sweep_block::all, of_blocks, seed, &mut c);
     blocks::all(&mut Rng(seed), of_blocks, &mut c);
     let right = c.show();
     demand3::run(of_blocks, seed) && right

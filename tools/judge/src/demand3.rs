@@ -86,8 +86,11 @@ fn alter(g: &mut Rng, bytes: Vec<u8>, n: usize, row: &mut Row, wrong: &mut Wrong
 
 fn show(name: &str, r: &Row) {
     let cells = [r.blocks, r.accepted, r.refused_adds, r.read, r.null, r.refused, r.altered, r.refused_then, r.wrong];
-    println!("| {name:27} |{}", cells.map(|v| format!(" {v:>9} |")).concat());
+    println!("| {name:27} |{}", cells.map(|v| format!(" {v:>12} |")).concat());
 }
+
+/// Makes a block, or finds that it is wrong.
+type Make = fn(&mut Rng, &mut Row, &mut Wrong) -> Option<(Vec<u8>, usize)>;
 
 /// So many blocks that were written, and a quarter as many of random bits that are framed as PDUs, and of any.
 pub fn run(blocks: u64, seed: u64) -> bool {
@@ -95,17 +98,17 @@ pub fn run(blocks: u64, seed: u64) -> bool {
     let mut wrong = Wrong::default();
     println!("demand 3 at run time:");
     let head = ["blocks", "added", "not added", "read", "null", "refused", "altered", "refused then", "wrong"];
-    println!("| {:27} |{}", "blocks", head.map(|h| format!(" {h:>9} |")).concat());
+    println!("| {:27} |{}", "blocks", head.map(|h| format!(" {h:>12} |")).concat());
     println!("|{}", "---|".repeat(1 + head.len()));
-    for (name, count) in [("written by runs", blocks), ("PDUs of random bits", blocks.div_ceil(4)), ("random bits", blocks.div_ceil(4))] {
-        let mut row = Row::default();
+    let kinds: [(&str, u64, Make); 3] = [
+        ("written by runs", blocks, written),
+        ("PDUs of random bits", blocks.div_ceil(4), |g, _, _| Some(random_bits(g, true))),
+        ("random bits", blocks.div_ceil(4), |g, _, _| Some(random_bits(g, false))),
+    ];
+    for (name, count, make) in kinds {
+        let mut row = Row { blocks: count, ..Row::default() };
         for _ in 0..count {
-            row.blocks += 1;
-            let block = match name {
-                "written by runs" => written(&mut g, &mut row, &mut wrong),
-                _ => Some(random_bits(&mut g, name == "PDUs of random bits")),
-            };
-            if let Some((bytes, n)) = block {
+            if let Some((bytes, n)) = make(&mut g, &mut row, &mut wrong) {
                 count_entries(&mut row, &bytes, n);
                 alter(&mut g, bytes, n, &mut row, &mut wrong);
             }

@@ -16,6 +16,7 @@ mod original;
 mod ours;
 mod runs;
 mod sweep;
+mod sweep_block;
 
 fn number(words: &[String], at: usize, otherwise: u64) -> u64 {
     words.get(at).map_or(otherwise, |v| v.parse().expect("a number"))

@@ -1,5 +1,5 @@
-//! "A writer's run is a list of adds (content from other bytes) and finishes on one block of N bits, from bit 0 and any bytes": what it must
-//! leave.
+//! "A writer's run is a list of adds (content from other bytes) and finishes on one block of N bits, from bit 0 and any bytes": what it
+//! must leave.
 use crate::altered::walked;
 use crate::blocks;
 use crate::cases::{self, Rng};
@@ -200,6 +200,6 @@ impl Run {
     }
 
     pub fn show(&self) -> String {
-        format!("{} bits in {:02x?}, calls {:02x?}", self.bits, self.bytes, self.calls)
+        format!("{} bits in {:02x?}, calls {:?}", self.bits, self.bytes, self.calls)
     }
 }
