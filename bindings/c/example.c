@@ -1,6 +1,23 @@
-/* A MAC-RESOURCE to SSI 1 without content: counted, written with its fill, printed, read back, and read from too few bits. */
+/* A MAC-RESOURCE to SSI 1 without content: counted, written with its fill, printed, read back, and read from too few bits; then added to a
+ * block of 124 bits, which is finished and walked. */
 #include "tetra_mac.h"
 #include <stdio.h>
+
+static int in_a_block(const uint64_t *header) {
+    uint8_t block[16] = {0};
+    uint64_t out[1], entry[TETRA_BLOCK_WORDS];
+    size_t bit = 0;
+
+    if (tetra_block_add(block, 16, 124, bit, header, TETRA_RESOURCE_WORDS, 0, NULL, 0, 0, out, 1) != TETRA_DONE) return 1;
+    if (tetra_block_finish(block, 16, 124, out[0], out, 1) != TETRA_DONE) return 1;
+    do {
+        if (tetra_block_step(block, 16, 124, bit, entry, TETRA_BLOCK_WORDS) != TETRA_DONE) return 1;
+        const uint64_t *h = entry + TETRA_BLOCK_HEADER;
+        printf("bit %d: kind %d, address %d\n", (int)bit, (int)entry[TETRA_BLOCK_KIND], (int)h[TETRA_RESOURCE_ADDRESS]);
+        bit = entry[TETRA_BLOCK_END];
+    } while (entry[TETRA_BLOCK_END_PRESENT]);
+    return 0;
+}
 
 int main(void) {
     uint8_t pdu[6] = {0};
@@ -22,5 +39,5 @@ int main(void) {
 
     uint64_t status = tetra_mac_resource_read(pdu, 6, 0, 0, 30, out, 1 + TETRA_RESOURCE_WORDS);
     printf("of 30 bits: refused %u at bit %d, cursor %d\n", tetra_number(status), (int)tetra_bit(status), (int)out[0]);
-    return 0;
+    return in_a_block(header);
 }

@@ -1,13 +1,16 @@
-/* Bits and upper-MAC headers of a TETRA cell (ETSI EN 300 392-2, clause 21): the C interface, crates/tetra_mac.
+/* Bits, upper-MAC headers and downlink MAC blocks of a TETRA cell (ETSI EN 300 392-2, clause 21): the C interface, crates/tetra_mac, and
+ * of blocks crates/tetra_block.
  *
- * `rt staticlib tetra_mac` proves it and writes target/staticlib/libtetra_mac.a for x86-64. Every function below is proved to return, to do
+ * `rt staticlib tetra_mac` and `rt staticlib tetra_block` prove it and write target/staticlib/libtetra_mac.a and libtetra_block.a for
+ * x86-64; only who calls tetra_block_.. needs the second, and neither needs the other. Every function below is proved to return, to do
  * nothing undefined and to give exactly the answer of its definition, for every input: there is nothing that a caller must check first.
  *
  * SLICES. A slice is a pointer and the count of its elements, which are really there. A slice of count 0 may have any pointer. Slices of one
  * call do not overlap, unless both are only read. Nothing is kept after the call.
  *
- * WINDOWS. Bits are numbered from 0, most significant bit of byte 0 first. A call on bytes has a window of them: the bits from `start` to
- * `end`, with the cursor at `pos`. It is good where start <= pos <= end <= 8 * len and end <= 65536; any other is refused (13).
+ * WINDOWS. Bits are numbered from 0, most significant bit of byte 0 first. A call on bytes `s` has a window of them: the bits from `start`
+ * to `end`, with the cursor at `pos`. It is good where start <= pos <= end <= 8 * len and end <= 65536; any other is refused (13). A call
+ * on a block has no window: the block is the first `bits` bits of its bytes, at most 488, and the call is at its `bit`.
  *
  * RECORDS. A header or element is a list of 64-bit words, its record; TETRA_.._WORDS is its length and the enums name its places. A record
  * handed in may be longer: what follows is not looked at. A flag is false where it is 0 and true where it is anything else; it is given as 0
@@ -20,11 +23,12 @@
  *   0                    done: the answer is in `out`.
  *   number + 256 * bit   a refused read: one of enum tetra_refusal, and the refused field's first bit, counted from the header's first bit
  *                        (0 where the refusal is not about a field).
- *   number               a refused write or length: one of enum tetra_refusal.
+ *   number               a refused write or length, or a call on a block that is refused: one of enum tetra_refusal.
  *   255                  malformed: `out` or the record is too short, or the record has a code that no case has.
  *
- * A refused call leaves every byte of `s` as it was. A refused read or write puts the cursor, as it was given, into out[0] and nothing else;
- * a refused length and a malformed call write nothing anywhere. */
+ * A refused call leaves every byte of `s` or `block` as it was. A refused read or write puts the cursor, as it was given, into out[0] and
+ * nothing else, a refused add or finish of a block its bit; a refused length, a refused step of a block and a malformed call write nothing
+ * anywhere. */
 #ifndef TETRA_MAC_H
 #define TETRA_MAC_H
 
@@ -39,18 +43,20 @@ extern "C" {
  * field, and 2 last. */
 enum tetra_refusal {
     TETRA_READ_PAST_END = 1,        /* a read past the window's end, or of more than 64 bits */
-    TETRA_WRITE_PAST_END = 2,       /* a write past the window's end, or of more than 64 bits */
+    TETRA_WRITE_PAST_END = 2,       /* a write past the window's end, or of more than 64 bits; a PDU longer than its block's rest */
     TETRA_VALUE_TOO_WIDE = 3,       /* a value wider than its field */
     TETRA_WRONG_PDU_TYPE = 4,       /* a PDU type that is not the one expected */
     TETRA_EXTENDED_CARRIER = 5,     /* a channel allocation whose extension flag is set */
     TETRA_AUGMENTED = 6,            /* a channel allocation in the augmented direction */
     TETRA_USAGE_MARKER = 7,         /* an uplink usage marker 1 to 3, or a usage without a marker; a traffic marker below 4 */
-    TETRA_LENGTH = 8,               /* a MAC-RESOURCE written with length 0; a PDU of more than 61 octets */
-    TETRA_NULL_PDU = 9,             /* a null PDU with fill, position of grant, encryption or random access not 0 */
+    TETRA_LENGTH = 8,               /* a MAC-RESOURCE written with length 0; a PDU of more than 61 octets; in a block, a length of 0
+                                       or 1, or one that passes the block's end by 8 bits or more */
+    TETRA_NULL_PDU = 9,             /* a null PDU with fill, position of grant, encryption or random access not 0; one added to a block */
     TETRA_ENCRYPTED_ADDRESS = 10,   /* an SSI, USSI or SMI written with encryption */
     TETRA_NO_FRAME_18_PATTERN = 11, /* monitoring pattern 0 without a frame-18 pattern */
-    TETRA_NO_FILL_BIT = 12,         /* the fill flag is set and no 1 follows the header: of blocks, which have no call here yet */
-    TETRA_BAD_WINDOW = 13,          /* a window that is not good */
+    TETRA_NO_FILL_BIT = 12,         /* in a block: the fill flag is set and no 1 follows the header in the PDU */
+    TETRA_BAD_WINDOW = 13,          /* a window that is not good; a block's bit count over 488 or over its bytes, or a bit at which
+                                       the call cannot be */
     TETRA_DELAY_COUNT = 14          /* a granting delay that is not of 1 to 13 opportunities */
 };
 
@@ -233,6 +239,43 @@ uint64_t tetra_mac_data_read(const uint8_t *s, size_t len, size_t start, size_t 
 /* The reserved bit behind a capacity request is written 0. Refused: 13, 10, 3, 2. */
 uint64_t tetra_mac_data_write(uint8_t *s, size_t len, size_t start, size_t pos, size_t end, const uint64_t *record, size_t count,
                               uint64_t *out, size_t words);
+
+/* ---- downlink MAC block: MAC-RESOURCE PDUs one after the other from bit 0 on, each with its content and its fill; a null PDU is the last
+ *
+ * A walk is all steps from bit 0 on, each from the last one's place 3, until one gives kind 0 or a PDU without an end. A writer's run
+ * begins at bit 0, and each of its calls is at the bit that the last one gave. */
+
+enum tetra_block {
+    TETRA_BLOCK_KIND = 0,          /* code 0 to 3: 0 end, fewer than 16 bits are left; 1 MAC-RESOURCE; 2 null PDU; 3 refused PDU */
+    TETRA_BLOCK_BIT = 1,           /* the PDU's first bit */
+    TETRA_BLOCK_END_PRESENT = 2,   /* flag: whether it has an end, at which the walk goes on: always with kind 1, never with 0 or 2 */
+    TETRA_BLOCK_END = 3,           /* the bit after it, where it has an end */
+    TETRA_BLOCK_CONTENT_START = 4, /* with kind 1: the content's first bit */
+    TETRA_BLOCK_CONTENT_END = 5,   /* with kind 1: the bit after the content; fill bits follow up to the PDU's end */
+    TETRA_BLOCK_REFUSAL = 6,       /* with kind 3, one of enum tetra_refusal: with an end 1, 5, 6 or 12; without one 4 or 8 */
+    TETRA_BLOCK_REFUSAL_BIT = 7,   /* with kind 3: the refused field's first bit, counted from the PDU's; for 12 the header's end */
+    TETRA_BLOCK_HEADER = 8,        /* 8 to 32, with kind 1: the record of the MAC-RESOURCE */
+    TETRA_BLOCK_WORDS = 33
+};
+
+/* What stands at a bit of a block. A header is read from the bits of its PDU alone. out[0] to out[32]: the places above; what a kind does
+ * not have is 0. `words` is at least 33. Refused: 13, also for a bit past the block's end. A PDU that is refused (kind 3) is no refused
+ * call. */
+uint64_t tetra_block_step(const uint8_t *block, size_t len, size_t bits, size_t bit, uint64_t *out, size_t words);
+
+/* Writes a PDU at a bit: a MAC-RESOURCE of the record, content_bits bits of content, and fill, a 1 and zeros, up to its end. The call sets
+ * the fill flag, where there is fill, and the length: the record's places 0 and 4 do not matter. `length` is a code: 0 counted, so that
+ * the PDU has whole octets, but no bit past the block's end; 62 second slot stolen or 63 start of fragments, with which it takes the rest
+ * of the block; any other is malformed. out[0]: the bit after the PDU. `words` is at least 1. No other bit of the block changes. Refused:
+ * 13, also for a bit that is neither on an octet nor the block's end, and for content of more bits than its bytes have; 8; 9 for a null
+ * PDU; 10; then 3, 14, 11 and 6 by field; 2. */
+uint64_t tetra_block_add(uint8_t *block, size_t len, size_t bits, size_t bit, const uint64_t *record, size_t count, uint64_t length,
+                         const uint8_t *content, size_t content_len, size_t content_bits, uint64_t *out, size_t words);
+
+/* Closes a block at a bit: a null PDU if 16 bits are left, then, if any are left, a 1 and zeros to the block's end. out[0]: the block's
+ * end, at which nothing can be added (2). `words` is at least 1. Refused: 13, also for a bit that is neither on an octet nor the block's
+ * end. */
+uint64_t tetra_block_finish(uint8_t *block, size_t len, size_t bits, size_t bit, uint64_t *out, size_t words);
 
 #ifdef __cplusplus
 }

@@ -1,11 +1,11 @@
-//! Bits and upper-MAC headers of a TETRA cell (ETSI EN 300 392-2, clause 21), over the C interface of Vullapei.
+//! Bits, upper-MAC headers and downlink MAC blocks of a TETRA cell (ETSI EN 300 392-2, clause 21), over the C interface of Vullapei.
 //!
 //! The code behind each call is proved: it returns, does nothing undefined and gives exactly the answer of its definition, for every input.
 //! This crate only turns values into records of words and back. Names are those of tetra-bluestation where it has one.
 //!
 //! Bytes are lent to each call, and a [`Cursor`] says which bits of them are in view and where the call begins. A read gives the value and the
 //! cursor behind it, a write the cursor. A refused call gives a [`Refusal`] and leaves every byte as it was; a cursor is a value, so the
-//! caller's own is where it was.
+//! caller's own is where it was. Whole blocks have no cursor: see [`block`].
 //!
 //! ```
 //! use tetra_mac::{Cursor, MacAccess, MacAccessOption, UplinkAddress};
@@ -25,6 +25,7 @@ mod access_assign;
 mod access_field;
 mod address;
 mod bits;
+pub mod block;
 mod channel_allocation;
 mod cursor;
 mod mac_access;

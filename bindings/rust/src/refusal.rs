@@ -1,7 +1,7 @@
 //! Why a call is refused.
 use std::fmt;
 
-/// A refusal's number and, for a read, the first bit of the refused field, counted from the header's first bit; 0 for other calls.
+/// A refusal's number and, for a read or a PDU of a block, the first bit of the refused field, counted from the header's first bit; else 0.
 #[derive(Clone, Copy, Debug, PartialEq, Eq, Hash)]
 pub struct Refusal {
     pub number: u8,
@@ -11,7 +11,7 @@ pub struct Refusal {
 impl Refusal {
     /// A read past the window's end, or of more than 64 bits.
     pub const READ_PAST_END: u8 = 1;
-    /// A write past the window's end, or of more than 64 bits.
+    /// A write past the window's end, or of more than 64 bits; a PDU longer than the rest of its block.
     pub const WRITE_PAST_END: u8 = 2;
     /// A value wider than its field.
     pub const VALUE_TOO_WIDE: u8 = 3;
@@ -23,17 +23,18 @@ impl Refusal {
     pub const AUGMENTED: u8 = 6;
     /// An uplink usage marker 1 to 3, or a usage without a marker; a traffic marker below 4.
     pub const USAGE_MARKER: u8 = 7;
-    /// A MAC-RESOURCE written with length 0; a PDU of more than 61 octets.
+    /// A MAC-RESOURCE written with length 0; a PDU of more than 61 octets; in a block, a length of 0 or 1, or one that passes the block's
+    /// end by 8 bits or more.
     pub const LENGTH: u8 = 8;
-    /// A null PDU with fill, position of grant, encryption or random access not 0.
+    /// A null PDU with fill, position of grant, encryption or random access not 0; one added to a block.
     pub const NULL_PDU: u8 = 9;
     /// An SSI, USSI or SMI written with encryption.
     pub const ENCRYPTED_ADDRESS: u8 = 10;
     /// Monitoring pattern 0 without a frame-18 pattern.
     pub const NO_FRAME_18_PATTERN: u8 = 11;
-    /// The fill flag is set and no 1 follows the header: of blocks, which have no call here yet.
+    /// In a block: the fill flag is set and no 1 follows the header in the PDU.
     pub const NO_FILL_BIT: u8 = 12;
-    /// A window that is not good.
+    /// A window that is not good; a block's bit count over 488 or over its bytes, a bit that no call can be at.
     pub const BAD_WINDOW: u8 = 13;
     /// A granting delay that is not of 1 to 13 opportunities.
     pub const DELAY_COUNT: u8 = 14;

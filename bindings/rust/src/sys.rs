@@ -1,7 +1,10 @@
 //! The C interface as it is. `bindings/c/tetra_mac.h` says what every function and every word of a record is.
 
-/// Words for any answer: the cursor and the longest record.
+/// Words for any answer but a block's step: the cursor and the longest record.
 pub type Out = [u64; 26];
+
+/// Words for the answer of a block's step: what stands there, and its header's record.
+pub type StepOut = [u64; 33];
 
 /// A call that reads a header or element: bytes and their count, the window's start, cursor and end, the answer's words and their count.
 pub type Read = unsafe extern "C" fn(*const u8, usize, usize, usize, usize, *mut u64, usize) -> u64;
@@ -38,4 +41,8 @@ unsafe extern "C" {
 
     pub fn tetra_mac_data_read(s: *const u8, len: usize, start: usize, pos: usize, end: usize, out: *mut u64, words: usize) -> u64;
     pub fn tetra_mac_data_write(s: *mut u8, len: usize, start: usize, pos: usize, end: usize, record: *const u64, count: usize, out: *mut u64, words: usize) -> u64;
+
+    pub fn tetra_block_step(block: *const u8, len: usize, bits: usize, bit: usize, out: *mut u64, words: usize) -> u64;
+    pub fn tetra_block_add(block: *mut u8, len: usize, bits: usize, bit: usize, record: *const u64, count: usize, length: u64, content: *const u8, content_len: usize, content_bits: usize, out: *mut u64, words: usize) -> u64;
+    pub fn tetra_block_finish(block: *mut u8, len: usize, bits: usize, bit: usize, out: *mut u64, words: usize) -> u64;
 }

@@ -1,5 +1,6 @@
 //! Both sides in one process on the same inputs: nanoseconds a call and the ratio to the original, with its spread over runs. This port is
 //! measured through its C interface, as a call of its own and with the record of words made or taken apart; the original on values of its own.
+use crate::bench_block;
 use crate::original;
 use crate::ours::{self, Kind, Out, Window};
 use std::hint::black_box;
@@ -11,15 +12,15 @@ const CALLS: usize = 2_000;
 const RUNS: usize = 501;
 
 /// A loop of so many calls.
-type Calls = Box<dyn FnMut(usize)>;
+pub type Calls = Box<dyn FnMut(usize)>;
 
-struct Operation {
-    name: String,
-    theirs: Calls,
-    ours: Calls,
+pub struct Operation {
+    pub name: String,
+    pub theirs: Calls,
+    pub ours: Calls,
 }
 
-fn calls(mut call: impl FnMut() + 'static) -> Calls {
+pub fn calls(mut call: impl FnMut() + 'static) -> Calls {
     Box::new(move |n| (0..n).for_each(|_| call()))
 }
 
@@ -176,6 +177,7 @@ fn operations() -> Vec<Operation> {
     header(&mut all, "ACCESS-ASSIGN", Kind::Assign, &[3, 4, 5, 4, 6]);
     header(&mut all, "MAC-ACCESS", Kind::Access, &[0, 0, 0, 1, 1, 2, 1, 4]);
     header(&mut all, "MAC-DATA", Kind::Data, &[0, 0, 0, 1, 1, 2, 1, 4]);
+    all.extend(bench_block::operations());
     all
 }
 

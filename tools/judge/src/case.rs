@@ -1,4 +1,5 @@
 //! One case: a call and its inputs, what both sides answer, and the class of the two answers.
+use crate::block::{self, Add};
 use crate::bound;
 use crate::kind::{listed_read, listed_write};
 use crate::original::{self, caught};
@@ -21,6 +22,11 @@ pub enum Call {
     HeaderLen,
     /// Numbers: the record, then the bits of content.
     UpdateLen,
+    /// Of a block: the window's pos is the call's bit, and its end the block's bits.
+    Step,
+    /// Numbers: those of `block::Add`.
+    Add,
+    Finish,
 }
 
 #[derive(Clone, Debug)]
@@ -40,42 +46,21 @@ pub enum Class {
     Refused3,
     Refused5,
     Refused35,
+    /// Document 01's rules of a block refuse it, and so does this port: 8, 9, 12 and 13. The original has no blocks.
+    Rule,
     /// The original completes, this port refuses: the number of the entry in docs/DIFFERENCES.md.
     Listed(u8),
     Wrong,
 }
 
 impl Call {
-    pub fn name(self) -> &'static str {
-        match self {
-            Call::ReadBits => "read_bits",
-            Call::PeekBits => "peek_bits_posoffset",
-            Call::WriteBits => "write_bits",
-            Call::Read(Kind::Slotgrant) => "slot grant, read",
-            Call::Write(Kind::Slotgrant) => "slot grant, written",
-            Call::Read(Kind::Channel) => "channel allocation, read",
-            Call::Write(Kind::Channel) => "channel allocation, written",
-            Call::Read(Kind::Resource) => "MAC-RESOURCE, read",
-            Call::Write(Kind::Resource) => "MAC-RESOURCE, written",
-            Call::Read(Kind::Assign) => "ACCESS-ASSIGN, read",
-            Call::Write(Kind::Assign) => "ACCESS-ASSIGN, written",
-            Call::Read(Kind::Access) => "MAC-ACCESS, read",
-            Call::Write(Kind::Access) => "MAC-ACCESS, written",
-            Call::Read(Kind::Data) => "MAC-DATA, read",
-            Call::Write(Kind::Data) => "MAC-DATA, written",
-            Call::ChannelLen => "compute_len",
-            Call::HeaderLen => "compute_header_len",
-            Call::UpdateLen => "update_len_and_fill_ind",
-        }
-    }
-
     pub fn writes(self) -> bool {
-        matches!(self, Call::WriteBits | Call::Write(_))
+        matches!(self, Call::WriteBits | Call::Write(_) | Call::Add | Call::Finish)
     }
 }
 
 /// What the original answers.
-enum Theirs {
+pub enum Theirs {
     Done(Vec<u64>),
     /// Its own error or None: the bits are at their end, or a value has no meaning.
     Ended,
@@ -84,6 +69,8 @@ enum Theirs {
     Panics(String),
     /// A window that its setters do not take.
     NoWindow,
+    /// A rule of document 01 for blocks refuses it: the number and the bit.
+    Rule(u8, usize),
 }
 
 fn theirs_on(c: &Case, b: &mut BitBuffer) -> Theirs {
@@ -113,6 +100,9 @@ fn theirs_on(c: &Case, b: &mut BitBuffer) -> Theirs {
             let fill = h.update_len_and_fill_ind(n[25] as usize);
             Theirs::Done(vec![h.length_ind as u64, h.fill_bits as u64, fill as u64])
         }
+        Call::Step => block::theirs_step(c, b),
+        Call::Add => block::theirs_add(c, b),
+        Call::Finish => block::theirs_finish(c, b),
     }
 }
 
@@ -124,7 +114,7 @@ fn theirs_or_panic(c: &Case, b: &mut BitBuffer) -> Theirs {
 }
 
 /// The cursor after the call, and the words of its answer.
-type Ours = Result<(usize, Vec<u64>), Refusal>;
+pub type Ours = Result<(usize, Vec<u64>), Refusal>;
 
 fn ours_on(c: &Case, s: &mut [u8]) -> Option<Ours> {
     let (n, w) = (&c.numbers, c.window);
@@ -138,10 +128,14 @@ fn ours_on(c: &Case, s: &mut [u8]) -> Option<Ours> {
         Call::ChannelLen => counted(bound::channel_len(n)?),
         Call::HeaderLen => counted(bound::header_len(n)?),
         Call::UpdateLen => counted(bound::update_len(n, n[25] as usize)?),
+        Call::Step => block::ours_step(c)?,
+        Call::Add => block::ours_add(c, s)?,
+        Call::Finish => block::ours_finish(c, s)?,
     })
 }
 
-/// Whether the C call refuses just so and gives back the cursor that it was given; the bindings' cursor is a value and cannot show it.
+/// Whether the C call refuses just so and gives back the cursor that it was given; the bindings' cursor is a value and cannot show it. Calls on
+/// a block have been held to that already.
 fn cursor_kept(c: &Case, r: Refusal) -> bool {
     let mut out: Out = [0; 26];
     let again = match c.call {
@@ -155,16 +149,19 @@ fn cursor_kept(c: &Case, r: Refusal) -> bool {
 /// Whether a refusal's number, and of a read its bit, fits what the original says where it refuses too, and the bit where its cursor stopped.
 fn same_reason(c: &Case, theirs: &Theirs, cursor: usize, r: Refusal) -> bool {
     let at = c.window.pos.saturating_add(r.bit);
+    if let Theirs::Rule(number, bit) = *theirs {
+        return r == Refusal { number, bit };
+    }
     if r.number == Refusal::BAD_WINDOW {
         return r.bit == 0 && (matches!(theirs, Theirs::NoWindow) || c.window.end > 65536);
     }
     match (theirs, c.call) {
-        (Theirs::Ended, Call::Read(_)) => r.number == Refusal::READ_PAST_END && at == cursor,
+        (Theirs::Ended, Call::Read(_) | Call::Step) => r.number == Refusal::READ_PAST_END && at == cursor,
         (Theirs::Ended, _) => r == Refusal { number: Refusal::READ_PAST_END, bit: 0 },
         (Theirs::Invalid, _) => r == Refusal { number: Refusal::USAGE_MARKER, bit: 8 },
         (Theirs::Panics(_), Call::PeekBits) => r == Refusal { number: Refusal::READ_PAST_END, bit: 0 },
-        (Theirs::Panics(why), Call::Read(k)) => match r.number {
-            Refusal::WRONG_PDU_TYPE => r.bit == 0 && cursor == at + if k == Kind::Access { 1 } else { 2 },
+        (Theirs::Panics(why), Call::Read(_) | Call::Step) => match r.number {
+            Refusal::WRONG_PDU_TYPE => r.bit == 0 && cursor == at + if c.call == Call::Read(Kind::Access) { 1 } else { 2 },
             Refusal::EXTENDED_CARRIER => why.contains("Extended") && cursor == at + 1,
             Refusal::AUGMENTED => why.contains("Augmented") && (cursor == at + 19 || cursor == at + 21),
             _ => false,
@@ -172,6 +169,7 @@ fn same_reason(c: &Case, theirs: &Theirs, cursor: usize, r: Refusal) -> bool {
         (Theirs::Panics(why), Call::ChannelLen | Call::HeaderLen | Call::UpdateLen) => {
             r == Refusal { number: Refusal::AUGMENTED, bit: 0 } && why.contains("Augmented")
         }
+        (Theirs::Panics(why), Call::Add) if block::added_reason(why, r.number) => r.bit == 0,
         (Theirs::Panics(why), _) => r.bit == 0 && written_reason(why, r.number),
         _ => false,
     }
@@ -204,6 +202,7 @@ fn listed(c: &Case, answer: &[u64], cursor: usize, r: Refusal) -> Option<u8> {
         Call::PeekBits => (r.number == Refusal::READ_PAST_END && w.pos as i128 + (c.numbers[0] as i64 as i128) < w.start as i128).then_some(2),
         Call::Read(k) => told(listed_read(k, cursor - w.pos, answer)).filter(|_| cursor == w.pos + r.bit && cursor == w.end),
         Call::Write(k) => told(listed_write(k, &c.numbers)),
+        Call::Add => told(listed_write(Kind::Resource, &c.numbers)),
         Call::UpdateLen => {
             let total = (original::resource(&c.numbers).compute_header_len() as u64).saturating_add(c.numbers[25]);
             (r.number == Refusal::LENGTH && total > 488).then_some(9)
@@ -213,6 +212,34 @@ fn listed(c: &Case, answer: &[u64], cursor: usize, r: Refusal) -> Option<u8> {
 }
 
 impl Case {
+    /// The row that it is counted in.
+    pub fn name(&self) -> &'static str {
+        match self.call {
+            Call::ReadBits => "read_bits",
+            Call::PeekBits => "peek_bits_posoffset",
+            Call::WriteBits => "write_bits",
+            Call::Read(Kind::Slotgrant) => "slot grant, read",
+            Call::Write(Kind::Slotgrant) => "slot grant, written",
+            Call::Read(Kind::Channel) => "channel allocation, read",
+            Call::Write(Kind::Channel) => "channel allocation, written",
+            Call::Read(Kind::Resource) => "MAC-RESOURCE, read",
+            Call::Write(Kind::Resource) => "MAC-RESOURCE, written",
+            Call::Read(Kind::Assign) => "ACCESS-ASSIGN, read",
+            Call::Write(Kind::Assign) => "ACCESS-ASSIGN, written",
+            Call::Read(Kind::Access) => "MAC-ACCESS, read",
+            Call::Write(Kind::Access) => "MAC-ACCESS, written",
+            Call::Read(Kind::Data) => "MAC-DATA, read",
+            Call::Write(Kind::Data) => "MAC-DATA, written",
+            Call::ChannelLen => "compute_len",
+            Call::HeaderLen => "compute_header_len",
+            Call::UpdateLen => "update_len_and_fill_ind",
+            Call::Step => "block, step",
+            Call::Add if Add::of(&self.numbers).whole_octets(self.window.pos, self.window.end) => "block, add of whole octets",
+            Call::Add => "block, other adds",
+            Call::Finish => "block, finish",
+        }
+    }
+
     pub fn class(&self) -> Class {
         let (theirs, cursor, left) = match original::buffer(&self.bytes, self.window) {
             None => (Theirs::NoWindow, self.window.pos, None),
@@ -239,6 +266,7 @@ impl Case {
                 let moved = cursor != self.window.pos || *left != self.bytes;
                 match (same_reason(self, &theirs, cursor, r), moved, matches!(theirs, Theirs::Panics(_) | Theirs::NoWindow)) {
                     (false, _, _) => Class::Wrong,
+                    (true, _, _) if matches!(theirs, Theirs::Rule(..)) => Class::Rule,
                     (true, false, false) => Class::Refused,
                     (true, true, false) => Class::Refused3,
                     (true, false, true) => Class::Refused5,
@@ -318,7 +346,7 @@ impl Case {
         let w = self.window;
         let numbers = self.numbers.iter().map(|v| if self.call == Call::PeekBits { (*v as i64).to_string() } else { v.to_string() });
         let numbers: Vec<String> = numbers.collect();
-        format!("{}: {}, window {} {} {}, numbers {}", self.call.name(), hex(&self.bytes), w.start, w.pos, w.end, numbers.join(" "))
+        format!("{}: {}, window {} {} {}, numbers {}", self.name(), hex(&self.bytes), w.start, w.pos, w.end, numbers.join(" "))
     }
 
     /// What both sides answer.

@@ -3,16 +3,17 @@ use crate::case::{Call, Case, Class};
 use crate::cases::{self, Rng};
 use crate::original::{self, caught};
 use crate::ours::{KINDS, Kind, Window};
-use crate::{names, sweep};
+use crate::{blocks, demand3, names, sweep, sweep_block};
 use std::collections::BTreeMap;
 use tetra_core::BitBuffer;
 
-const CLASSES: [(Class, &str); 11] = [
+const CLASSES: [(Class, &str); 12] = [
     (Class::Equal, "equal"),
     (Class::Refused, "refused"),
     (Class::Refused3, "refused, 3"),
     (Class::Refused5, "refused, 5"),
     (Class::Refused35, "refused, 3 5"),
+    (Class::Rule, "rule"),
     (Class::Listed(1), "1"),
     (Class::Listed(2), "2"),
     (Class::Listed(6), "6"),
@@ -22,7 +23,7 @@ const CLASSES: [(Class, &str); 11] = [
 ];
 
 #[derive(Default)]
-struct Counts {
+pub struct Counts {
     /// By the call's name; a call's row stands where it first came.
     rows: Vec<(&'static str, BTreeMap<Class, u64>)>,
     /// The smallest case of each class that is a difference, and of those that are wrong.
@@ -31,16 +32,16 @@ struct Counts {
 }
 
 impl Counts {
-    fn add(&mut self, case: Case) {
+    pub fn add(&mut self, case: Case) {
         let class = case.class();
-        let name = case.call.name();
+        let name = case.name();
         let at = self.rows.iter().position(|(n, _)| *n == name).unwrap_or_else(|| {
             self.rows.push((name, BTreeMap::new()));
             self.rows.len() - 1
         });
         *self.rows[at].1.entry(class).or_default() += 1;
         self.all += 1;
-        let plain = matches!(class, Class::Equal | Class::Refused);
+        let plain = matches!(class, Class::Equal | Class::Refused | Class::Rule);
         if !plain && self.smallest.get(&class).is_none_or(|c| case.size() < c.size()) {
             self.smallest.insert(class, case);
         }
@@ -163,7 +164,22 @@ fn lengths(g: &mut Rng, c: &mut Counts) {
     put(Call::UpdateLen, [record, vec![content]].concat());
 }
 
-/// At least so many cases: the sweeps, or an even part of them that is at most half, then random ones.
+/// Cases in turn: all, or an even part of them that is at most half of so many.
+fn in_turn(all: fn(&mut dyn FnMut(Case)), least: u64, seed: u64, c: &mut Counts) {
+    let mut total = 0u64;
+    all(&mut |_| total += 1);
+    let stride = (2 * total).div_ceil(least.max(1)).max(1);
+    let (before, mut at) = (c.all, seed);
+    all(&mut |case| {
+        at += 1;
+        if at % stride == 0 {
+            c.add(case);
+        }
+    });
+    println!("seed {seed}: {} cases in turn, of {total}", c.all - before);
+}
+
+/// At least so many cases: those in turn, then random ones. Then calls on a tenth as many blocks, and demand 3 over as many.
 pub fn run(least: u64, seed: u64) -> bool {
     match names::compared() {
         Ok(n) => println!("{n} codes of four enums: their cases have the original's names"),
@@ -172,18 +188,8 @@ pub fn run(least: u64, seed: u64) -> bool {
             return false;
         }
     }
-    let mut total = 0u64;
-    sweep::all(&mut |_| total += 1);
-    let stride = (2 * total).div_ceil(least.max(1)).max(1);
     let mut c = Counts::default();
-    let mut at = seed;
-    sweep::all(&mut |case| {
-        at += 1;
-        if at % stride == 0 {
-            c.add(case);
-        }
-    });
-    println!("seed {seed}: {} cases in turn, of {total}", c.all);
+    in_turn(sweep::all, least, seed, &mut c);
     let mut g = Rng(seed);
     while c.all < least {
         for k in KINDS {
@@ -193,5 +199,9 @@ pub fn run(least: u64, seed: u64) -> bool {
         bits(&mut g, &mut c);
         lengths(&mut g, &mut c);
     }
-    c.show()
+    let of_blocks = least.div_ceil(10);
+    in_turn(sweep_block::all, of_blocks, seed, &mut c);
+    blocks::all(&mut Rng(seed), of_blocks, &mut c);
+    let right = c.show();
+    demand3::run(of_blocks, seed) && right
 }

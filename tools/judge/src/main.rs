@@ -1,14 +1,22 @@
 //! The original as judge: a live comparison and a benchmark, over the bindings of this port.
+mod altered;
 mod bench;
+mod bench_block;
+mod block;
+mod blocks;
 mod bound;
 mod case;
 mod cases;
 mod compare;
+mod demand3;
 mod kind;
+mod model;
 mod names;
 mod original;
 mod ours;
+mod runs;
 mod sweep;
+mod sweep_block;
 
 fn number(words: &[String], at: usize, otherwise: u64) -> u64 {
     words.get(at).map_or(otherwise, |v| v.parse().expect("a number"))
