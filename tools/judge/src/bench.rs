@@ -55,7 +55,7 @@ fn read_header(what: &str, k: Kind, s: Vec<u8>, bits: u64) -> Operation {
         name: format!("read {what}, {bits} bits"),
         theirs: calls(move || {
             b.set_raw_pos(0);
-            black_box(read_original(k, &mut b));
+            assert!(read_original(k, &mut b));
         }),
         ours: calls(move || ours::read(k, &s, WHOLE, &mut out).unwrap()),
     }
@@ -121,12 +121,12 @@ impl Value {
 fn read_original(k: Kind, b: &mut BitBuffer) -> bool {
     use tetra_pdus::umac::{fields, pdus};
     match k {
-        Kind::Slotgrant => black_box(fields::basic_slotgrant::BasicSlotgrant::from_bitbuf(b)).is_ok(),
-        Kind::Channel => black_box(fields::channel_allocation::ChanAllocElement::from_bitbuf(b)).is_ok(),
-        Kind::Resource => black_box(pdus::mac_resource::MacResource::from_bitbuf(b)).is_ok(),
-        Kind::Assign => black_box(pdus::access_assign::AccessAssign::from_bitbuf(b)).is_ok(),
-        Kind::Access => black_box(pdus::mac_access::MacAccess::from_bitbuf(b)).is_ok(),
-        Kind::Data => black_box(pdus::mac_data::MacData::from_bitbuf(b)).is_ok(),
+        Kind::Slotgrant => fields::basic_slotgrant::BasicSlotgrant::from_bitbuf(b).is_ok(),
+        Kind::Channel => fields::channel_allocation::ChanAllocElement::from_bitbuf(b).is_ok(),
+        Kind::Resource => pdus::mac_resource::MacResource::from_bitbuf(b).is_ok(),
+        Kind::Assign => pdus::access_assign::AccessAssign::from_bitbuf(b).is_ok(),
+        Kind::Access => pdus::mac_access::MacAccess::from_bitbuf(b).is_ok(),
+        Kind::Data => pdus::mac_data::MacData::from_bitbuf(b).is_ok(),
     }
 }
 
@@ -141,7 +141,7 @@ fn bits(all: &mut Vec<Operation>, n: usize, pos: usize) {
         name: format!("read {n} bits at bit {pos}"),
         theirs: calls(move || {
             b.set_raw_pos(pos);
-            black_box(b.read_bits(black_box(n)));
+            b.read_bits(black_box(n)).unwrap();
         }),
         ours: calls(move || ours::read_bits(&s, w, black_box(n), &mut out).unwrap()),
     });
