@@ -1,5 +1,5 @@
-//! Has `rt staticlib tetra_mac` prove and write the static library in the repository's root, where it is older than a source, and links it.
-//! With LIBTETRA_MAC set, the folder of a libtetra_mac.a that is there already, it only links.
+//! Has `rt staticlib` prove and write the two static libraries in the repository's root, where one is older than a source, and links them.
+//! With LIBTETRA_MAC set, the folder of a libtetra_mac.a and a libtetra_block.a that are there already, it only links.
 use std::path::{Path, PathBuf};
 use std::process::{Command, Stdio};
 
@@ -10,7 +10,7 @@ fn proved() -> PathBuf {
     }
     match Command::new(root.join("bindings/staticlib")).stderr(Stdio::inherit()).output() {
         Ok(done) if done.status.success() => PathBuf::from(String::from_utf8_lossy(&done.stdout).trim_end()),
-        Ok(done) => panic!("rt staticlib tetra_mac: {}", done.status),
+        Ok(done) => panic!("bindings/staticlib: {}", done.status),
         Err(e) => panic!("bindings/staticlib: {e}"),
     }
 }
@@ -18,7 +18,9 @@ fn proved() -> PathBuf {
 fn main() {
     println!("cargo:rerun-if-env-changed=LIBTETRA_MAC");
     let folder = std::env::var_os("LIBTETRA_MAC").map_or_else(proved, PathBuf::from);
-    println!("cargo:rerun-if-changed={}", folder.join("libtetra_mac.a").display());
     println!("cargo:rustc-link-search=native={}", folder.display());
-    println!("cargo:rustc-link-lib=static=tetra_mac");
+    for library in ["tetra_mac", "tetra_block"] {
+        println!("cargo:rerun-if-changed={}", folder.join(format!("lib{library}.a")).display());
+        println!("cargo:rustc-link-lib=static={library}");
+    }
 }

@@ -1,4 +1,4 @@
-//! The header and `sys` declare exactly the functions of crates/tetra_mac, with their parameters.
+//! The header and `sys` declare exactly the functions of crates/tetra_mac and crates/tetra_block, with their parameters.
 use std::collections::BTreeMap;
 use std::path::Path;
 
@@ -58,11 +58,12 @@ fn c(parameter: &str) -> Vec<&'static str> {
 
 #[test]
 fn declared() {
-    let folder = Path::new(env!("CARGO_MANIFEST_DIR")).join("../../crates/tetra_mac/src");
     let mut there = Functions::new();
-    for entry in std::fs::read_dir(folder).expect("crates/tetra_mac/src") {
-        let text = std::fs::read_to_string(entry.expect("a file").path()).expect("a file of text");
-        there.extend(functions(&text, "pub extern \"C\" fn ", source));
+    for folder in ["crates/tetra_mac/src", "crates/tetra_block/src"] {
+        for entry in std::fs::read_dir(Path::new(env!("CARGO_MANIFEST_DIR")).join("../..").join(folder)).expect(folder) {
+            let text = std::fs::read_to_string(entry.expect("a file").path()).expect("a file of text");
+            there.extend(functions(&text, "pub extern \"C\" fn ", source));
+        }
     }
     assert!(there.len() >= 21);
     assert_eq!(there, functions(&file("bindings/rust/src/sys.rs"), "pub fn ", rust));
