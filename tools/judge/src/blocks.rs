@@ -74,7 +74,7 @@ pub fn framed(g: &mut Rng, bytes: &mut [u8], n: usize) {
             _ => 2 + g.below(left.min(16)),
         };
         let (flags, address) = (g.below(32), if g.once_in(16) { 0 } else { 1 + g.below(7) });
-        let head = (flags << 9 | length % 64 << 3 | address) as u16;
+        let head = ((flags << 9) | ((length % 64) << 3) | address) as u16;
         model::put(bytes, p, &model::bits(&head.to_be_bytes(), 16));
         p += 8 * length as usize;
         if g.once_in(30) {
@@ -129,7 +129,7 @@ pub fn length_of(code: u64) -> LengthIndication {
 }
 
 /// A run on the bytes: each call is a case of its own, and is then done through the bindings.
-fn run(g: &mut Rng, bytes: &mut Vec<u8>, n: usize, c: &mut Counts) {
+fn run(g: &mut Rng, bytes: &mut [u8], n: usize, c: &mut Counts) {
     let mut p = 0;
     let adds = if g.once_in(4) { g.below(20) } else { g.below(5) };
     for _ in 0..adds {
@@ -137,11 +137,11 @@ fn run(g: &mut Rng, bytes: &mut Vec<u8>, n: usize, c: &mut Counts) {
         let (length, content_bits, content) = added(g, &record, n - p);
         let numbers = Add { record: &record, length, content_bits, content: content.clone() }.numbers();
         let window = Window { start: 0, pos: another_bit(g, p, n), end: another_size(g, n) };
-        c.add(Case { call: Call::Add, bytes: bytes.clone(), window, numbers });
+        c.add(Case { call: Call::Add, bytes: bytes.to_vec(), window, numbers });
         p = block::add(bytes, n, p, &value(&record), length_of(length), &content, content_bits).unwrap_or(p);
     }
     let window = Window { start: 0, pos: another_bit(g, p, n), end: another_size(g, n) };
-    c.add(Case { call: Call::Finish, bytes: bytes.clone(), window, numbers: vec![] });
+    c.add(Case { call: Call::Finish, bytes: bytes.to_vec(), window, numbers: vec![] });
     if !g.once_in(6) {
         let _ = block::finish(bytes, n, p);
     }
