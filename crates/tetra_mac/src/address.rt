@@ -4,9 +4,9 @@ use tetra_core::address::SsiType;
 use tetra_core::address::TetraAddress;
 use tetra_core::address::UplinkAddress;
 ghost use mathlib.Core.Path.{_≡_};
-ghost use Rattle.tetra_mac.specs.Address.{ssiKind, ssiOfKind, uplinkKind, uplinkKnown, uplinkValue, addressKind, addressFirst, addressSecond, addressKnown, addressValue};
+ghost use Rattle.tetra_mac.specs.Address.{ssiKind, ssiOfKind, uplinkKind, uplinkKnown, uplinkValue, addressKnown, addressValue};
 
-fn ssi_kind(k: SsiType) -> u64
+pub(crate) fn ssi_kind(k: SsiType) -> u64
     ensures { λ r. ⌜ r ≡ ssiKind k ⌝ }
 {
     match k {
@@ -60,54 +60,6 @@ pub(crate) fn uplink_value(addr_type: u64, kind: u64, number: u64) -> UplinkAddr
         1 => UplinkAddress::EventLabel(record::number16(number)),
         2 => UplinkAddress::Ussi(record::number32(number)),
         _ => UplinkAddress::Smi(record::number32(number)),
-    }
-}
-
-// The SSI kind of an address, 0 where it has none.
-pub(crate) fn address_kind(a: TetraAddress) -> u64
-    ensures { λ r. ⌜ r ≡ addressKind a ⌝ }
-{
-    match a {
-        TetraAddress::NullPdu => 0,
-        TetraAddress::Ssi(k, _) => ssi_kind(k),
-        TetraAddress::EventLabel(_) => 0,
-        TetraAddress::Ussi(_) => 0,
-        TetraAddress::Smi(_) => 0,
-        TetraAddress::SsiAndEventLabel(k, _, _) => ssi_kind(k),
-        TetraAddress::SsiAndUsageMarker(k, _, _) => ssi_kind(k),
-        TetraAddress::SmiAndEventLabel(_, _) => 0,
-    }
-}
-
-// The SSI, USSI or SMI of an address, or a label that stands alone.
-pub(crate) fn address_first(a: TetraAddress) -> u64
-    ensures { λ r. ⌜ r ≡ addressFirst a ⌝ }
-{
-    match a {
-        TetraAddress::NullPdu => 0,
-        TetraAddress::Ssi(_, v) => v as u64,
-        TetraAddress::EventLabel(l) => l as u64,
-        TetraAddress::Ussi(v) => v as u64,
-        TetraAddress::Smi(v) => v as u64,
-        TetraAddress::SsiAndEventLabel(_, v, _) => v as u64,
-        TetraAddress::SsiAndUsageMarker(_, v, _) => v as u64,
-        TetraAddress::SmiAndEventLabel(v, _) => v as u64,
-    }
-}
-
-// The label or marker beside an SSI or SMI, 0 where there is none.
-pub(crate) fn address_second(a: TetraAddress) -> u64
-    ensures { λ r. ⌜ r ≡ addressSecond a ⌝ }
-{
-    match a {
-        TetraAddress::NullPdu => 0,
-        TetraAddress::Ssi(_, _) => 0,
-        TetraAddress::EventLabel(_) => 0,
-        TetraAddress::Ussi(_) => 0,
-        TetraAddress::Smi(_) => 0,
-        TetraAddress::SsiAndEventLabel(_, _, l) => l as u64,
-        TetraAddress::SsiAndUsageMarker(_, _, m) => m as u64,
-        TetraAddress::SmiAndEventLabel(_, l) => l as u64,
     }
 }
 

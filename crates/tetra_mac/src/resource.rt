@@ -20,7 +20,7 @@ ghost use Prim.Native.Nat.{_≤_};
 ghost use lib.ListN.{length};
 ghost use lib.Seq.{sets};
 ghost use Rattle.tetra_mac.specs.Reply.{replied, wrote, window, putFirst, givenReply};
-ghost use Rattle.tetra_mac.specs.MacResource.{fixedWords, addressWords, powerPresent, powerLevel, powerWords, frontWords, grantingWords, allocationWords, macResourceWords, powerValue, grantingKnown, grantingValue, allocationKnown, allocationValue, frontValue, addressOfWords, powerOfWords, assembled, macResourceKnown, macResourceValue, macResourceReadReply, macResourceWriteReply, headerLenReply, updateLenReply};
+ghost use Rattle.tetra_mac.specs.MacResource.{fixedWords, addressWords, powerWords, frontWords, grantingWords, allocationWords, macResourceWords, powerValue, grantingKnown, grantingValue, allocationKnown, allocationValue, frontValue, addressOfWords, powerOfWords, assembled, macResourceKnown, macResourceValue, macResourceReadReply, macResourceWriteReply, headerLenReply, updateLenReply};
 
 // The cursor's bit, and the words of the fields before the address.
 fn first_words(at: usize, h: MacResource) -> [u64; 6]
@@ -39,36 +39,25 @@ fn first_words(at: usize, h: MacResource) -> [u64; 6]
 fn address_words(a: TetraAddress) -> [u64; 4]
     ensures { λ r. ⌜ r ≡ addressWords a ⌝ }
 {
-    [
-        tetra_core::address::address_type(a) as u64,
-        address::address_kind(a),
-        address::address_first(a),
-        address::address_second(a),
-    ]
-}
-
-fn power_present(p: PowerControl) -> u64
-    ensures { λ r. ⌜ r ≡ powerPresent p ⌝ }
-{
-    match p {
-        PowerControl::Without => 0,
-        PowerControl::Level(_) => 1,
-    }
-}
-
-fn power_level(p: PowerControl) -> u64
-    ensures { λ r. ⌜ r ≡ powerLevel p ⌝ }
-{
-    match p {
-        PowerControl::Without => 0,
-        PowerControl::Level(v) => v as u64,
+    match a {
+        TetraAddress::NullPdu => [0, 0, 0, 0],
+        TetraAddress::Ssi(k, v) => [1, address::ssi_kind(k), v as u64, 0],
+        TetraAddress::EventLabel(l) => [2, 0, l as u64, 0],
+        TetraAddress::Ussi(v) => [3, 0, v as u64, 0],
+        TetraAddress::Smi(v) => [4, 0, v as u64, 0],
+        TetraAddress::SsiAndEventLabel(k, v, l) => [5, address::ssi_kind(k), v as u64, l as u64],
+        TetraAddress::SsiAndUsageMarker(k, v, m) => [6, address::ssi_kind(k), v as u64, m as u64],
+        TetraAddress::SmiAndEventLabel(v, l) => [7, 0, v as u64, l as u64],
     }
 }
 
 fn power_words(p: PowerControl) -> [u64; 2]
     ensures { λ r. ⌜ r ≡ powerWords p ⌝ }
 {
-    [power_present(p), power_level(p)]
+    match p {
+        PowerControl::Without => [0, 0],
+        PowerControl::Level(v) => [1, v as u64],
+    }
 }
 
 // Puts the cursor's bit and the words 0 to 10 into out, a group at a time, so that no array of them all is built and copied.

@@ -35,10 +35,10 @@ pub enum Frame18Pattern {
 }
 
 pub struct ChanAllocElement {
+    // 4, written second. It stands first so that its four bytes are aligned and are moved as one.
+    pub ts_assigned: TimeslotsAssigned,
     // 2
     pub alloc_type: ChanAllocType,
-    // 4
-    pub ts_assigned: TimeslotsAssigned,
     // 2
     pub ul_dl_assigned: UlDlAssignment,
     // 1
