@@ -8,10 +8,13 @@ use Rattle.mac_resource.specs.Elements.{optional, readPower, readGranting, read
 use Rattle.mac_resource.specs.MacResource.{readMacResource}
 use Rattle.mac_block.specs.Frame.{field, countedFrame, resourceFrame, frameOf, frame}
 use Rattle.mac_block.specs.Read.{extend, beforeLastOne, behindHeader, readOwn, readPdu}
-use Rattle.mac_block.specs.Walk.{goodBlock, stepOf, pduOf, firstPdu, stepAt, step, goOn, follow, walkBy, walkFrom, walk}
-use Rattle.block_lines.specs.Line.{readLine, pduLine, linesFrom, restBits}
+use Rattle.mac_block.specs.Walk.{goodBlock, stepOf, pduOf, firstPdu, stepAt, step, goOn, follow, walkBy, walkFrom}
+use Rattle.mac_block.specs.Step.{sizedEntry, entryOf}
+use Rattle.block_walk.specs.declared.Position.{Position}
+use Rattle.block_walk.specs.Positions.{walkOn, restFrom}
+use Rattle.block_lines.specs.Line.{resourceLine, entryLine, linesFrom, restBits}
 use Rattle.block_lines.specs.Examples.{bytes-01, lines-01}
 
-pub listing-01 : (linesFrom bytes-01 124 0 ≡ lines-01) × (restBits bytes-01 124 ≡ 60)
-unfolding odd val bitsOfNat bitsOf bitsAt fieldAt addrTypeOf readAddress one readBehindType readFixed optional readPower readGranting readAllocation readElements readMacResource field countedFrame resourceFrame frameOf frame extend beforeLastOne behindHeader readOwn readPdu goodBlock stepOf pduOf firstPdu stepAt step goOn follow walkBy walkFrom walk readLine pduLine linesFrom restBits
+pub listing-01 : (linesFrom bytes-01 124 (Position.At 0) ≡ lines-01) × (restBits bytes-01 124 ≡ 60)
+unfolding odd val bitsOfNat bitsOf bitsAt fieldAt addrTypeOf readAddress one readBehindType readFixed optional readPower readGranting readAllocation readElements readMacResource field countedFrame resourceFrame frameOf frame extend beforeLastOne behindHeader readOwn readPdu goodBlock stepOf pduOf firstPdu stepAt step goOn follow walkBy walkFrom sizedEntry entryOf walkOn restFrom resourceLine entryLine linesFrom
 listing-01 = (refl, refl)

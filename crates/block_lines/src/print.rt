@@ -4,8 +4,10 @@ use crate::address::Second;
 use crate::line;
 use crate::line::Line;
 use crate::line::ResourceLine;
-use crate::line::Turn;
+use block_walk::Position;
 use libc::STDOUT_FILENO;
+use mac_block::reader;
+use mac_block::reader::StepAnswer;
 use tetra_core::address::TetraAddress;
 use tetra_core::refusal;
 use tetra_core::refusal::Refusal;
@@ -83,20 +85,15 @@ fn print_line(l: Line) {
 fn print_entries(block: &[u8], bits: usize) -> usize
     ensures { λ r. ⌜ r ≡ restBits (now (block .entry)) bits ⌝ }
 {
-    let mut bit = 0;
+    let mut at = Position::At(0);
     loop {
-        match line::turn_at(block, bits, bit) {
-            Turn::On(l, next) => {
-                print_line(l);
-                bit = next;
-            }
-            Turn::Last(l, rest_at) => {
-                print_line(l);
-                return bits - rest_at;
-            }
-            Turn::Rest(rest_at) => return bits - rest_at,
-            Turn::Refused(_) => return bits - bit,
-        }
+        let step = block_walk::walk_step(block, bits, at);
+        let answer = step.answer;
+        at = step.position;
+        let StepAnswer::Entry(entry) = answer else {
+            return block_walk::rest_from(block, bits, at);
+        };
+        print_line(line::entry_line(entry));
     }
 }
 
@@ -113,7 +110,7 @@ pub fn print_no_block() {
 
 // Lists a block of so many bits.
 pub fn list(block: &[u8], bits: usize) {
-    if let Turn::Refused(_) = line::turn_at(block, bits, 0) {
+    if let StepAnswer::Refused(_) = reader::step(block, bits, 0) {
         print_no_block();
         return;
     }
