@@ -20,9 +20,9 @@ ghost use Rattle.mac_block.specs.Step.{sizedEntry, stepAnswer};
 
 // A MAC-RESOURCE that was read: its first bit and the bit after it, and the same of its content.
 pub struct ResourcePdu {
+    pub header: MacResource,
     pub bit: usize,
     pub end: usize,
-    pub header: MacResource,
     pub content_start: usize,
     pub content_end: usize,
 }

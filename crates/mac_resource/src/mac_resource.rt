@@ -44,6 +44,8 @@ pub const MAC_RESOURCE_LENGTH_FRAG_START: u8 = 63;
 pub const MAC_RESOURCE_LENGTH_2ND_SLOT_STOLEN: u8 = 62;
 
 pub struct MacResource {
+    // 3 behind the length, and the address behind these. It stands first for the reason that Refusal gives.
+    pub addr: TetraAddress,
     // 1, whether fill bits follow the content
     pub fill_bits: bool,
     // 1, whether a slot grant is on the allocated channel
@@ -54,8 +56,6 @@ pub struct MacResource {
     pub random_access_flag: bool,
     // 6, octets or a mark
     pub length_ind: u8,
-    // 3, and the address
-    pub addr: TetraAddress,
     // 1, and 4 if set
     pub power_control_element: PowerControl,
     // 1, and 8 if set
