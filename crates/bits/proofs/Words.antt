@@ -1,17 +1,17 @@
 -- What the code does a byte or a word at a time, in terms of bits.
-use Prim.Native.Nat.{ℕ, suc, _+_, _*_, _/_, _%_, _^_, _≤_, _<_}
+use Prim.Native.Nat.{ℕ, suc, _+_, _-_, _*_, _/_, _%_, _^_, _≤_, _<_}
 use mathlib.Core.Path.{_≡_, refl, sym, ap, _∙_}
 use mathlib.Core.List.{List, _∷_, _++_, append-assoc}
 use mathlib.Core.Bool.{Bool}
-use native.Mathlib.Nat.{add-zero, mod-eq-of-lt, mul-assoc, add-mul, add-assoc, pow-zero, div-one, mul-add}
+use native.Mathlib.Nat.{add-zero, add-sub-of-le, mod-mod, mod-eq-of-lt, mul-assoc, add-mul, add-assoc, pow-zero, div-one, mul-add}
 use native.Mathlib.Omega.{arith}
 use lib.ListN.{length, getD, take, drop, set, length-append, take-append-drop}
 use lib.Seq.{length-take-le, take-at, drop-at, drop-cons, set-split, split-at, drop-drop}
-use lib.Bits.{bitOr}
-use lib.Pow.{pow-add, high, low, shr-mod}
+use lib.Bits.{bitOr, or-shifted}
+use lib.Pow.{pow-add, high, low, shr-lt, shr-mod}
 use lib.Arith.{digits-lt}
-use Rattle.bits.specs.Laws.Shifts.{join-is}
-use Rattle.bits.specs.Bits.{val, bitsOfNat, bitsOf, pack, splice, bitsAt, getBits, putBits, patch, Bytes}
+use Rattle.bits.specs.Laws.Shifts.{join-is, shl-is, within-is}
+use Rattle.bits.specs.Bits.{val, bitsOfNat, bitsOf, pack, splice, bitsAt, getBits, putBits, patch, Leading, Bytes}
 use Rattle.bits.specs.Laws.Values.{val-append, val-lt, length-bitsOfNat, val-bitsOfNat, bitsOfNat-val, bitsOfNat-add}
 use Rattle.bits.specs.Laws.Bytes.{bitsOf-cons, length-bitsOf, bitsOf-append, drop-bitsOf, bitsOf-inj, bytes-set}
 use Rattle.bits.specs.Laws.Splice.{splice-mid}
@@ -66,6 +66,42 @@ getBits-double s i n k h =
 pub getBits-word : (s : List ℕ) (i o n m : ℕ) → o + (n + m) ≡ 64 → i + 8 ≤ length s
     → getBits s (8 * i) 64 / 2 ^ m % 2 ^ n ≡ getBits s (8 * i + o) n
 getBits-word s i o n m e h = ap (λ (k : ℕ). getBits s (8 * i) k / 2 ^ m % 2 ^ n) (sym e) ∙ getBits-part s (8 * i) o n m (omega arith)
+
+-- the word of the last eight bytes, moved up
+pub leading-word : (s : List ℕ) (i o : ℕ) → i + 8 ≡ length s → o ≤ 64 → Leading s (8 * i + o) ((getBits s (8 * i) 64 * 2 ^ o) % 2 ^ 64)
+leading-word s i o l h n j f =
+    rw (within-is (getBits s (8 * i) 64) o n (omega arith), mod-mod)
+    (getBits-word s i o n (64 - o - n) (omega arith) (omega arith))
+
+-- the word of any eight bytes, moved up, and the ninth byte behind it
+pub leading-nine : (s : List ℕ) (i o : ℕ) → i + 8 < length s → o ≤ 8 → getD s (i + 8) 0 < 256
+    → Leading s (8 * i + o) (bitOr ((getBits s (8 * i) 64 * 2 ^ o) % 2 ^ 64) (getD s (i + 8) 0 / 2 ^ (8 - o)))
+leading-nine s i o l h b n j f =
+    rw (shl-is (getBits s (8 * i) 64) o (omega arith), or-shifted (getBits s (8 * i) 64 % 2 ^ (64 - o)) o _ small, whole)
+    (rw (add-zero, m) at (getBits-part s (8 * i + o) 0 n (64 - n) (omega arith)))
+  where
+    ninth : ℕ
+    ninth = getD s (i + 8) 0
+
+    m : 0 + (n + (64 - n)) ≡ 64
+    m = omega arith
+
+    all : 64 - o + o ≡ 64
+    all = omega arith
+
+    byte : ninth < 2 ^ (o + (8 - o))
+    byte = rw (add-sub-of-le h) b
+
+    small : ninth / 2 ^ (8 - o) < 2 ^ o
+    small = shr-lt o (8 - o) byte
+
+    front : getBits s (8 * i) 64 % 2 ^ (64 - o) ≡ getBits s (8 * i + o) (64 - o)
+    front = rw (pow-zero, div-one) at (getBits-word s i o (64 - o) 0 (omega arith) (omega arith))
+
+    whole : getBits s (8 * i) 64 % 2 ^ (64 - o) * 2 ^ o + ninth / 2 ^ (8 - o) ≡ getBits s (8 * i + o) 64
+    whole =
+        rw (front, ← shr-mod {n = ninth} o (8 - o) byte)
+        (sym (rw all at (getBits-step s (8 * i + o) (64 - o) (i + 8) 0 o (8 - o) (omega arith) (omega arith) l)))
 
 pub patch-val : (o k m b v : ℕ) → o + (k + m) ≡ 8 → b < 256
     → patch b k m v ≡ val (bitsOfNat o (b / 2 ^ (k + m)) ++ (bitsOfNat k v ++ bitsOfNat m b))

@@ -2,7 +2,7 @@
 ghost use mathlib.Core.Path.{_≡_};
 ghost use Prim.Native.Nat.{_+_, _-_, _*_, _/_, _%_, _^_, _≤_, _<_, min};
 ghost use lib.ListN.{length};
-ghost use Rattle.bits.specs.Bits.{getBits, putBits, bitsOfNat, patch};
+ghost use Rattle.bits.specs.Bits.{getBits, putBits, bitsOfNat, patch, Leading};
 
 pub fn least(a: usize, b: usize) -> usize
     ensures { λ r. ⌜ r ≡ min a b ⌝ }
@@ -150,6 +150,20 @@ pub fn get_bits(s: &[u8], pos: usize, n: usize) -> u64
         return get_nine(s, at, o, n);
     }
     get_in_word(s, at, o, n)
+}
+
+// The bits from pos on, from a word's highest bit down: 64 of them, or those to the end of s.
+pub fn get_ahead(s: &[u8], pos: usize) -> u64
+    requires { ⌜ (8 ≤ length (now s)) × (pos < 8 * length (now s)) × (pos ≤ 65536) ⌝ }
+    ensures { λ r. ⌜ Leading (now (s .entry)) pos r ⌝ }
+{
+    let at = word_start(s.len(), pos);
+    let o = pos - 8 * at;
+    let x = load8(s, at) << o;
+    if at + 8 < s.len() {
+        return x | (wide(s[at + 8]) >> (8 - o));
+    }
+    x
 }
 
 // The n low bits of v put into s from pos on.

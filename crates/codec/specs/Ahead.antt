@@ -8,11 +8,13 @@ use native.Mathlib.Nat.{add-assoc, add-zero, mod-lt, mod-mod}
 use lib.ListN.{length, drop, length-drop}
 use lib.Seq.{drop-drop, drop-at}
 use lib.Pow.{pow-pos, shr-lt, shr-mod, shr-shr, shl-shr, mod-mod-pow}
-use Rattle.bits.specs.Bits.{bitsOfNat}
+use Rattle.bits.specs.Bits.{bitsOfNat, Leading}
 use Rattle.bits.specs.Laws.Values.{length-bitsOfNat, bitsOfNat-add, bitsOfNat-mod, bits-zero}
 use Rattle.codec.specs.Reader.{Out, got, refused, fieldAt, field-short, Reader, run, inside}
 use Rattle.codec.specs.Feed.{Starts, short, shortAt, total}
-use Rattle.codec.specs.Header.{Word, Reads, read}
+use Rattle.tetra_core.specs.Laws.Windows.{Good}
+use Rattle.tetra_core.specs.declared.bitbuffer.Cursor.{Cursor}
+use Rattle.codec.specs.Header.{Word, Left, Reads, read, within, word-there}
 use Rattle.codec.specs.declared.Ahead.{Ahead}
 
 -- what is ahead are the bits of the header h from an offset on
@@ -68,6 +70,14 @@ held-load {h} {o} {m} {v} left e d w = record { bits = e; part = go }
         let t : 64 - 0 - n ≡ 64 - m + k = omega (arith, d) in
         let w' : Word h o (n + k) v = rw s at w in
         rw (t, ← shr-shr (v * 2 ^ (64 - m)) (64 - m) k, shl-shr v (64 - m), shr-mod {n = v} n k (w' .small)) (word-head n k w')
+
+-- a word of the bytes' bits from the offset on, whatever follows those of the header in it
+pub held-ahead : (s : List ℕ) (c : Cursor) (o left : ℕ) {x : ℕ} → Good (length s) c → Left s c o left → 1 ≤ left → Leading s (c .pos + o) x
+    → Held (within s c) (record { at = o; left = left; word = x; used = 0 })
+held-ahead s c o left {x} g l m w = record { bits = l .bits; part = go }
+  where
+    go : (n : ℕ) → n ≤ left → 0 + n ≤ 64 → Word (within s c) o n (x / 2 ^ (64 - 0 - n) % 2 ^ n)
+    go n i j = rw (w n (omega arith) (omega (arith, l, g))) (word-there s c g o n (omega (arith, l)))
 
 -- n bits on
 pub held-on : {h : List Bool} {a : Ahead} (m : ℕ) → Held h a → m ≤ a .left → Held h (aheadOn a m)

@@ -43,7 +43,7 @@ pub struct Ahead {
     pub used: usize,
 }
 
-// Loads what is ahead at the offset o of a header: 64 bits, or as many as there are.
+// Loads what is ahead at the offset o of a header: 64 bits, or as many as the bytes have. Those behind the window are never looked at.
 pub fn load(s: &[u8], c: Cursor, o: usize) -> Ahead
     requires { ⌜ Good (length (now s)) c ⌝ }
     ensures { λ r. ⌜ Held (within (now (s .entry)) c) r × Ready r 64 × (r .at ≡ o) ⌝ }
@@ -57,11 +57,18 @@ pub fn load(s: &[u8], c: Cursor, o: usize) -> Ahead
             used: 0,
         };
     }
-    let n = bits::word::least(left, 64);
+    if s.len() < 8 {
+        return Ahead {
+            at: o,
+            left,
+            word: word(s, c, o, left) << (64 - left),
+            used: 0,
+        };
+    }
     Ahead {
         at: o,
         left,
-        word: word(s, c, o, n) << (64 - n),
+        word: bits::word::get_ahead(s, c.pos + o),
         used: 0,
     }
 }

@@ -1,16 +1,29 @@
 -- What the code's shifts and masks are in plain arithmetic. `a << k` is `a * 2 ^ k % 2 ^ 64`, `a >> k` is `a / 2 ^ k`.
 use Prim.Native.Nat.{ℕ, _+_, _-_, _*_, _/_, _%_, _^_, _≤_, _<_}
 use mathlib.Core.Path.{_≡_, sym, ap, _∙_}
-use native.Mathlib.Nat.{add-comm, add-mul, mul-assoc, one-mul, mod-lt, mod-mod, mod-eq-of-lt, lt-of-le-of-lt, div-mul-le-self}
+use native.Mathlib.Nat.{add-comm, add-zero, add-mul, mul-assoc, one-mul, mod-lt, mod-mod, mod-eq-of-lt, lt-of-le-of-lt, div-mul-le-self}
 use native.Mathlib.Omega.{arith}
 use lib.Bits.{bitAnd, bitOr, and-mask, and-high, or-shifted}
-use lib.Pow.{high-ones, ones-lt, shl-lt, pow-pos, pow-lt, pow-add, shl-exact, field, shr-shr, shl-shr, split, mod-pow-add, shr-lt}
+use lib.Pow.{low, high-ones, ones-lt, shl-lt, pow-pos, pow-lt, pow-add, shl-exact, field, shr-shr, shl-shr, split, mod-pow-add, shr-lt}
 use lib.Arith.{digits-lt}
 use Rattle.bits.specs.Bits.{patch}
 
 -- 1 << k
 pub one-shl : (k : ℕ) → k < 64 → (1 * 2 ^ k) % 2 ^ 64 ≡ 2 ^ k
 one-shl k h = ap (λ (x : ℕ). x % 2 ^ 64) (one-mul (2 ^ k)) ∙ mod-eq-of-lt (pow-lt h)
+
+-- x << o
+pub shl-is : (x o : ℕ) → o ≤ 64 → (x * 2 ^ o) % 2 ^ 64 ≡ x % 2 ^ (64 - o) * 2 ^ o
+shl-is x o h =
+    ap (λ (k : ℕ). (x * 2 ^ o) % 2 ^ k) whole
+    ∙ mod-pow-add (x * 2 ^ o) (64 - o) o
+    ∙ rw (shl-shr x o, none, add-zero)
+  where
+    whole : 64 ≡ 64 - o + o
+    whole = omega arith
+
+    none : x * 2 ^ o % 2 ^ o ≡ 0
+    none = rw add-zero at (low x o {lo = 0} (pow-pos o))
 
 -- (acc << k) | x
 pub push-is : (acc k x : ℕ) → x < 2 ^ k → acc * 2 ^ k + x < 2 ^ 64 → bitOr ((acc * 2 ^ k) % 2 ^ 64) x ≡ acc * 2 ^ k + x
