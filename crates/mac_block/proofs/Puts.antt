@@ -1,15 +1,18 @@
 -- Bits put one behind the other.
-use mathlib.Core.Path.{_≡_, refl}
+use mathlib.Core.Path.{_≡_, refl, sym, _∙_}
 use mathlib.Core.Bool.{Bool, true, false, not}
 use mathlib.Core.List.{List, [], _∷_, _++_}
-use Prim.Native.Nat.{ℕ, zero, suc, _+_, _-_, _*_, _≤_}
+use Prim.Native.Nat.{ℕ, zero, suc, _+_, _-_, _*_, _^_, _≤_}
+use native.Mathlib.Nat.{zero-mod, mod-self, div-self}
 use native.Mathlib.Omega.{arith}
 use borrow.Author.Tests.{lt-ltb, ne-eqb}
 use borrow.Rule.Slice.PartMut.{putMid}
 use lib.Dec.{eqb}
 use lib.ListN.{length, take, drop, replicate, length-drop}
+use lib.Pow.{pow-pos}
 use lib.Seq.{length-take-le}
 use Rattle.bits.specs.Bits.{odd, bitsOfNat, putBits, Bytes}
+use Rattle.bits.specs.Laws.Values.{bits-suc, bits-of-zero, bitsOfNat-mod}
 use Rattle.bits.specs.Laws.Writes.{putBits-append, length-putBits}
 use Rattle.codec.specs.Lend.{lent}
 use Rattle.mac_block.specs.Writer.{flagOf, fillBits}
@@ -32,6 +35,15 @@ pub put-fill : (s : List ℕ) (p n : ℕ) → (n ≡ 0 → ⊥) → p + n ≤ 8 
 unfolding fillBits bitsOfNat odd
 put-fill s p zero h k = absurd (h refl)
 put-fill s p (suc n) h k = let e : suc n - 1 ≡ n = omega arith in rw e (putBits-append s p (true ∷ []) (replicate n false) (omega arith))
+
+-- the same bits as one number
+pub fill-is : (n : ℕ) → (n ≡ 0 → ⊥) → bitsOfNat n (2 ^ (n - 1)) ≡ fillBits n
+unfolding fillBits odd
+fill-is zero h = absurd (h refl)
+fill-is (suc n) h =
+    let e : suc n - 1 ≡ n = omega arith in
+    let z = bitsOfNat-mod n (2 ^ n) 0 (mod-self (2 ^ n) ∙ sym (zero-mod (2 ^ n))) in
+    rw (e, bits-suc n (2 ^ n), div-self (pow-pos n), z, bits-of-zero n)
 
 -- the flag as the code has it
 pub flag-is : (f : ℕ) → not (eqb f 0) ≡ flagOf f

@@ -39,6 +39,11 @@ pub(crate) fn put_fill(s: &mut [u8], pos: usize, n: usize)
     if n == 0 {
         return;
     }
+    // One write where a word holds it.
+    if n <= 64 {
+        word::put_bits(s, pos, n, 1u64 << (n - 1));
+        return;
+    }
     word::put_bits(s, pos, 1, 1);
     run::put_run(s, pos + 1, n - 1, false);
 }
