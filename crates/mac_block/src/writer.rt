@@ -14,6 +14,7 @@ ghost use Prim.Native.Nat.{_+_, _*_, _≤_, _<_};
 ghost use lib.ListN.{length};
 ghost use Rattle.bits.specs.Bits.{bitsAt, putBits};
 ghost use Rattle.tetra_core.specs.Quantity.{octetsOf};
+ghost use Rattle.mac_resource.specs.MacResource.{headerLen};
 ghost use Rattle.mac_block.specs.Writer.{lengthOf, pduSize, goodBit, writerAt, finishBits, finishRefusal, finishTo, finishAnswer, addCheck, addRefusal, addBits, addOf, addTo, addAnswer};
 ghost use Rattle.mac_block.specs.Resource.{resourceCodec, Puttable};
 
@@ -100,18 +101,26 @@ fn finish_refusal(len: usize, bits: usize, bit: usize) -> u8
     0
 }
 
-// Why a header with so many bits of content is not added to any block, or 0.
-pub fn add_check(header: MacResource, content_bits: usize) -> u8
+// As add_check, for a header that takes up header_bits.
+fn check_sized(header: MacResource, header_bits: usize, content_bits: usize) -> u8
+    requires { ⌜ («header_bits» ≡ headerLen header) × («header_bits» ≤ 92) ⌝ }
     ensures { λ r. ⌜ r ≡ addCheck resourceCodec header «content_bits» ⌝ }
 {
     // Before the sum, which cannot overflow then.
     if crate::MOST_BITS < content_bits {
         return refusal::LENGTH;
     }
-    if crate::MOST_BITS < resource::header_len(header) + content_bits {
+    if crate::MOST_BITS < header_bits + content_bits {
         return refusal::LENGTH;
     }
     resource::add_refusal(header)
+}
+
+// Why a header with so many bits of content is not added to any block, or 0.
+pub fn add_check(header: MacResource, content_bits: usize) -> u8
+    ensures { λ r. ⌜ r ≡ addCheck resourceCodec header «content_bits» ⌝ }
+{
+    check_sized(header, resource::header_len(header), content_bits)
 }
 
 // Why it is not added at a bit of a block, with the content in a slice of so many bytes, or 0.
@@ -120,9 +129,11 @@ fn add_refusal(
     bits: usize,
     bit: usize,
     header: MacResource,
+    header_bits: usize,
     slice: usize,
     content_bits: usize,
 ) -> u8
+    requires { ⌜ («header_bits» ≡ headerLen header) × («header_bits» ≤ 92) ⌝ }
     ensures { λ r. ⌜ r ≡ addRefusal resourceCodec len bits bit header slice «content_bits» ⌝ }
 {
     let number = finish_refusal(len, bits, bit);
@@ -133,11 +144,11 @@ fn add_refusal(
     if slice < content_bits / 8 + (content_bits % 8 + 7) / 8 {
         return refusal::BAD_WINDOW;
     }
-    let number = add_check(header, content_bits);
+    let number = check_sized(header, header_bits, content_bits);
     if number != 0 {
         return number;
     }
-    if bits - bit < resource::header_len(header) + content_bits {
+    if bits - bit < header_bits + content_bits {
         return refusal::WRITE_PAST_END;
     }
     0
@@ -148,16 +159,16 @@ fn put_pdu(
     block: &mut [u8],
     bit: usize,
     header: MacResource,
+    header_bits: usize,
     length_ind: u8,
     content: &[u8],
     content_bits: usize,
     fill: usize,
 )
-    requires { ⌜ Puttable bit header «length_ind» (length (now content)) «content_bits» fill (length (now block)) ⌝ }
+    requires { ⌜ («header_bits» ≡ headerLen header) × Puttable bit header «length_ind» (length (now content)) «content_bits» fill (length (now block)) ⌝ }
     ensures { λ r. ⌜ now (block .exit) ≡ putBits (now (block .entry)) bit (addBits resourceCodec header «length_ind» (bitsAt (now (content .entry)) 0 «content_bits») fill) ⌝ }
 {
     let octet = bit / 8;
-    let header_bits = resource::header_len(header);
     resource::put_mac_resource(&mut block[octet..], 0, header, length_ind, fill != 0);
     run::copy_run(block, bit + header_bits, content, 0, content_bits);
     fill::put_fill(&mut block[octet..], header_bits + content_bits, fill);
@@ -175,20 +186,24 @@ pub fn add(
 ) -> Written
     ensures { λ r. ⌜ (r ≡ addAnswer resourceCodec bits (writerAt (now (block .entry)) bit) (addOf header indication (now (content .entry)) «content_bits»)) × (now (block .exit) ≡ addTo resourceCodec bits (writerAt (now (block .entry)) bit) (addOf header indication (now (content .entry)) «content_bits») .bytes) ⌝ }
 {
-    let number = add_refusal(block.len(), bits, bit, header, content.len(), content_bits);
+    let len = block.len();
+    let slice = content.len();
+    let header_bits = resource::header_len(header);
+    let number = add_refusal(len, bits, bit, header, header_bits, slice, content_bits);
     if number != 0 {
         return Written {
             bit,
             answer: Outcome::Refused(number),
         };
     }
-    let total = resource::header_len(header) + content_bits;
+    let total = header_bits + content_bits;
     let size = pdu_size(indication, bits - bit, total);
     let length_ind = length_of(indication, total);
     put_pdu(
         block,
         bit,
         header,
+        header_bits,
         length_ind,
         content,
         content_bits,

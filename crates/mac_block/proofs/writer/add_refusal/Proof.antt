@@ -22,14 +22,14 @@ returns-2 c = not-given resourceCodec _ _ _ _ _ _ (there (c .before)) (omega ari
 returns-3 : tie.Need-returns-3
 returns-3 c =
     let o = c .before .before .before in
-    not-fine resourceCodec _ _ _ _ _ _ (there o) (omega arith) (c .before .add-check .ensures) (c .if3 .taken)
+    not-fine resourceCodec _ _ _ _ _ _ (there o) (omega arith) (c .before .check-sized .ensures) (c .if3 .taken)
 
 fine : (c : tie.Else3) → let a = c .before .before .before .before .before .args in addCheck resourceCodec (a .header) (a .content-bits) ≡ 0
-fine c = sym (c .before .add-check .ensures) ∙ c .if3 .left
+fine c = sym (c .before .check-sized .ensures) ∙ c .if3 .left
 
 returns-4 : tie.Need-returns-4
 returns-4 c =
-    let b = c .before .before in
+    let b = c .before in
     let o = b .before .before .before in
     let a = o .before .before .args in
     let h : a .bits - a .bit < headerLen (a .header) + a .content-bits = omega arith in
@@ -38,7 +38,7 @@ returns-4 c =
 
 returns-5 : tie.Need-returns-5
 returns-5 c =
-    let b = c .before .before in
+    let b = c .before in
     let o = b .before .before .before in
     let a = o .before .before .args in
     let h : headerLen (a .header) + a .content-bits ≤ a .bits - a .bit = omega arith in
@@ -57,7 +57,6 @@ add-refusal-spec =
     (λ c κs. search needs)
     returns-3
     (λ c. let t = finish-tests _ _ _ (there (c .before .before .before)) in placed _ _ (t .1) .inside)
-    (λ c κs. search needs)
-    (λ c. let f = check-free resourceCodec _ _ (fine (c .before)) in omega arith)
+    (λ c. let f = check-free resourceCodec _ _ (fine c) in omega arith)
     returns-4
     returns-5)

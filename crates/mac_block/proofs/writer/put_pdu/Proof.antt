@@ -17,21 +17,21 @@ use Rattle.mac_block.proofs.writer.put_pdu.Tie as tie
 
 put-mac-resource-requires : tie.Need-put-mac-resource-requires
 put-mac-resource-requires c κs =
-    let o = c .before .before .before .before in
+    let o = c .before .before .before in
     let a = o .args in
     let l = length-part (now (a .block)) (a .bit / 8) in
-    (omega arith, omega arith, add-told (a .header) (o .pre .fine) .1, o .pre .length)
+    (omega arith, omega arith, add-told (a .header) (o .pre .1 .fine) .1, o .pre .1 .length)
 
 -- the header is in its place
 header : (c : tie.After-block)
-    → let o = c .before .before .before .before .before .before in let a = o .args in
+    → let o = c .before .before .before .before .before in let a = o .args in
     putMid (a .bit / 8) (length (now (a .block)) - a .bit / 8) (now (a .block)) (c .before .put-mac-resource .last .0)
     ≡ putBits (now (a .block)) (a .bit) (headerBits (a .header) (a .length-ind) (flagOf (a .fill)))
 header c =
-    let o = c .before .before .before .before .before .before in
+    let o = c .before .before .before .before .before in
     let a = o .args in
     put-part (now (a .block)) (a .bit / 8) 0 (a .bit) (headerBits (a .header) (a .length-ind) (flagOf (a .fill)))
-    (λ i. omega (arith, c .before .before .before .before .before .slice-known .given i)) (omega arith)
+    (λ i. omega (arith, c .before .before .before .before .slice-known .given i)) (omega arith)
     (omega (arith, header-length (a .header) (a .length-ind) (flagOf (a .fill)))) (rw (flag-is (a .fill)) at (c .before .put-mac-resource .ensures))
 
 returns : tie.Need-returns
@@ -41,12 +41,11 @@ returns c =
     let k = f .before .before in
     let r = k .before .before in
     let h = r .before .before .before in
-    let o = h .before .before .before .before .before .before in
+    let o = h .before .before .before .before .before in
     let a = o .args in
-    let n = h .before .before .before .header-len .ensures .0 in
     put-part _ (a .bit / 8) _ (a .bit + (headerLen (a .header) + a .content-bits)) (fillBits (a .fill)) (λ i. omega (arith, k .slice-known3 .given i))
-    (omega arith) (omega (arith, length-fill (a .fill), o .pre .room)) (f .put-fill .ensures)
-    ∙ rw (r .copy-run .ensures, header h, n)
+    (omega arith) (omega (arith, length-fill (a .fill), o .pre .1 .room)) (f .put-fill .ensures)
+    ∙ rw (r .copy-run .ensures, header h, o .pre .0)
     (put-three (now (a .block)) (a .bit) (headerLen (a .header)) (a .content-bits) _ _ _ (header-length (a .header) (a .length-ind) (flagOf (a .fill)))
     (length-bitsAt _ 0 _ (omega arith)) (omega arith))
 
@@ -54,7 +53,6 @@ pub put-pdu-spec : {M : Type 1} → statement M
 put-pdu-spec =
     tie.close
     (tie.spec
-    (λ c κs. search needs)
     (λ c. search needs)
     (λ c. search needs)
     (λ c. search needs)
