@@ -1,11 +1,12 @@
 -- A header at a window's cursor: its bits, a word of them, the bits left, and what the calls that read it answer.
 use Prim.Native.Nat.{ℕ, _+_, _-_, _^_, _≤_, _<_}
-use mathlib.Core.Path.{_≡_, sym, ap, _∙_}
+use mathlib.Core.Path.{_≡_, refl, sym, ap, _∙_}
 use mathlib.Core.List.{List, _++_}
 use mathlib.Core.Bool.{Bool, true, false, not, cond}
 use native.Mathlib.Omega.{arith}
 use lib.ListN.{length, drop, length-drop}
 use lib.Seq.{drop-drop, drop-at}
+use lib.Dec.{eqb}
 use borrow.Author.Tests.{not-true, not-false}
 use Rattle.bits.specs.Bits.{bitsAt, getBits, bitsOfNat, val}
 use Rattle.tetra_core.specs.BitBuffer.{goodWindow, remaining, moved}
@@ -14,7 +15,7 @@ use Rattle.bits.specs.Laws.Reads.{length-bitsAt, bitsAt-add, getBits-lt}
 use Rattle.tetra_core.specs.Laws.Windows.{Good}
 use Rattle.tetra_core.specs.declared.bitbuffer.Cursor.{Cursor}
 use Rattle.tetra_core.specs.declared.refusal.Refusal.{Refusal}
-use Rattle.codec.specs.Reader.{Out, got, refused, fieldAt, field-short, Reader, run, inside}
+use Rattle.codec.specs.Reader.{Out, got, refused, next, fieldAt, field-short, Reader, run, inside}
 use Rattle.codec.specs.Feed.{feed, feeds, field-alone, Starts, short, shortAt, total}
 
 -- the bits of a window from its cursor on: a header there is made of these and no others
@@ -47,6 +48,10 @@ pub record Left (s : List ℕ) (c : Cursor) (o n : ℕ) : Type 0 where
 -- the part of a header of bits h that begins at the offset o: the answer r, seen as an outcome, is the definition's over the bits from o on
 pub record Reads {A R : Type 0} (view : List Bool → R → Out A) (p : Reader A) (h : List Bool) (o : ℕ) (r : R) : Type 0 where
   pub means : view h r ≡ run p (drop o h) o
+
+-- what a part answers: its refusal, with the number 0 where it was read, and the outcome then
+abbrev pub partOut : {A : Type 0} → Refusal → Out A → Out A
+partOut r out = cond (eqb (r .number) 0) out (refused (r .number) (r .bit))
 
 -- ---- laws: the bits of a good window
 
@@ -81,6 +86,14 @@ left-on {s} {c} {o} m e =
     record { count = omega arith; bits = omega (arith, length-drop o (within s c), length-drop (o + m) (within s c)) }
 
 -- ---- laws: a part of a header
+
+-- what follows a part
+pub next-part : {A B : Type 0} (r : Refusal) (x : Out A) (k : A → List Bool → ℕ → Out B) → next (partOut r x) k ≡ partOut r (next x k)
+next-part {A} {B} r x k = go (eqb (r .number) 0)
+  where
+    go : (b : Bool) → next (cond b x (refused (r .number) (r .bit))) k ≡ cond b (next x k) (refused (r .number) (r .bit))
+    go true = refl
+    go false = refl
 
 -- a reader where a word was read: each field that lies in the word is a part of x
 pub fed : {A : Type 0} {h : List Bool} {o n x : ℕ} (p : Reader A) → Word h o n x → run p (drop o h) o ≡ feed p x n 0 (drop (o + n) h) o

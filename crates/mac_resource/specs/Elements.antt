@@ -4,7 +4,8 @@ use mathlib.Core.List.{List, [], _∷_, _++_}
 use mathlib.Core.Bool.{Bool}
 use lib.ListN.{drop}
 use Rattle.tetra_core.specs.Refusal.{first}
-use Rattle.codec.specs.Reader.{Out, got, refused, Reader, done, field, choose, _>>=_}
+use Rattle.codec.specs.Header.{partOut}
+use Rattle.codec.specs.Reader.{Out, got, Reader, done, field, choose, _>>=_}
 use Rattle.codec.specs.Row.{Cell, cell, rowBits}
 use Rattle.codec.specs.Cases.{flag}
 use Rattle.tetra_fields.specs.BasicSlotgrant.{readSlotgrant, slotgrantRefusal, slotgrantRow}
@@ -69,20 +70,20 @@ grantingLen SlotGranting.Without = 1
 grantingLen (SlotGranting.Element g) = 9
 
 abbrev pub powerOut : ℕ → List Bool → PowerPart → Out PowerControl
-powerOut o h (PowerPart.Read p) = got p (drop (o + powerLen p) h) (o + powerLen p)
-powerOut o h (PowerPart.Refused r) = refused (r .number) (r .bit)
+powerOut o h p =
+    let n = o + powerLen (p .«power_control_element») in
+    partOut (p .refusal) (got (p .«power_control_element») (drop n h) n)
 
 abbrev pub grantingOut : ℕ → List Bool → GrantingPart → Out SlotGranting
-grantingOut o h (GrantingPart.Read g) = got g (drop (o + grantingLen g) h) (o + grantingLen g)
-grantingOut o h (GrantingPart.Refused r) = refused (r .number) (r .bit)
+grantingOut o h p =
+    let n = o + grantingLen (p .«slot_granting_element») in
+    partOut (p .refusal) (got (p .«slot_granting_element») (drop n h) n)
 
 abbrev pub allocationOut : List Bool → AllocationPart → Out ChannelAllocation
-allocationOut h (AllocationPart.Read a n) = got a (drop n h) n
-allocationOut h (AllocationPart.Refused r) = refused (r .number) (r .bit)
+allocationOut h p = partOut (p .refusal) (got (p .«chan_alloc_element») (drop (p .next) h) (p .next))
 
 abbrev pub elementsOut : List Bool → ElementsPart → Out Elements
-elementsOut h (ElementsPart.Read e n) = got e (drop n h) n
-elementsOut h (ElementsPart.Refused r) = refused (r .number) (r .bit)
+elementsOut h p = partOut (p .refusal) (got (p .elements) (drop (p .next) h) (p .next))
 
 -- ---- what is written
 

@@ -14,8 +14,8 @@ use Rattle.tetra_core.specs.declared.bitbuffer.Cursor.{Cursor}
 use Rattle.tetra_core.specs.declared.bitbuffer.Moved.{Moved}
 use Rattle.tetra_core.specs.Quantity.{octetCount}
 use Rattle.tetra_core.specs.declared.quantity.OctetCount.{OctetCount}
-use Rattle.codec.specs.Reader.{Out, got, refused, Reader, done, choose, _>>=_}
-use Rattle.codec.specs.Header.{atCursor}
+use Rattle.codec.specs.Reader.{Out, got, Reader, done, choose, _>>=_}
+use Rattle.codec.specs.Header.{atCursor, partOut}
 use Rattle.codec.specs.Row.{rowBits}
 use Rattle.codec.specs.Write.{writeAt, writtenAt}
 use Rattle.codec.specs.Cases.{flag}
@@ -77,8 +77,7 @@ readMacResource = do
     done (headerOf f a e)
 
 abbrev pub macResourceOut : List Bool → MacResourcePart → Out MacResource
-macResourceOut h (MacResourcePart.Read v n) = got v (drop n h) n
-macResourceOut h (MacResourcePart.Refused r) = refused (r .number) (r .bit)
+macResourceOut h p = partOut (p .refusal) (got (p .header) (drop (p .next) h) (p .next))
 
 unfoldable pub macResourceAt : List ℕ → Cursor → MacResourceRead
 macResourceAt = atCursor readMacResource (λ c a. record { cursor = c; answer = a }) MacResourceAnswer.Read MacResourceAnswer.Refused

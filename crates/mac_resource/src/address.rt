@@ -17,10 +17,10 @@ ghost use Rattle.codec.specs.Row.{rowBits, rowWord};
 ghost use Rattle.mac_resource.specs.Piece.{Holds};
 ghost use Rattle.mac_resource.specs.Address.{typeOf, isNull, isNamed, addressLen, addressOf, readAddress, addressOut, addressRefusal, addressRow};
 
-// An address as a part of a header.
-pub enum AddressPart {
-    Read(TetraAddress),
-    Refused(Refusal),
+// An address as a part of a header: why it is not read, or number 0.
+pub struct AddressPart {
+    pub refusal: Refusal,
+    pub addr: TetraAddress,
 }
 
 // Whether an address is that of a null PDU.
@@ -105,16 +105,31 @@ pub(crate) fn read_address(a: Ahead, t: MacResourceAddrType) -> AddressPart
 {
     let n = address_len(t);
     if n == 0 {
-        return AddressPart::Read(TetraAddress::NullPdu);
+        return AddressPart {
+            refusal: Refusal {
+                number: refusal::NONE,
+                bit: 0,
+            },
+            addr: TetraAddress::NullPdu,
+        };
     }
     let left = a.left;
     if left < n {
         // a label alone, of 10 bits, is cut off where 24 bits would be
         let widths = [24u8, 10];
-        return AddressPart::Refused(codec::short(&widths, left, a.at));
+        return AddressPart {
+            refusal: codec::short(&widths, left, a.at),
+            addr: TetraAddress::NullPdu,
+        };
     }
     let x = codec::take(a, n);
-    AddressPart::Read(address_of(t, x))
+    AddressPart {
+        refusal: Refusal {
+            number: refusal::NONE,
+            bit: 0,
+        },
+        addr: address_of(t, x),
+    }
 }
 
 // The refusal of a number that does not fit below the limit of its field, or 0.

@@ -7,10 +7,8 @@ use tetra_core::refusal;
 use tetra_core::refusal::Refusal;
 use tetra_fields::fields::basic_slotgrant;
 use tetra_fields::fields::basic_slotgrant::BasicSlotgrant;
-use tetra_fields::fields::basic_slotgrant::SlotgrantPart;
 use tetra_fields::fields::channel_allocation;
 use tetra_fields::fields::channel_allocation::ChanAllocElement;
-use tetra_fields::fields::channel_allocation::ChannelAllocationPart;
 ghost use mathlib.Core.Path.{_≡_};
 ghost use mathlib.Core.Bool.{true};
 ghost use mathlib.Core.List.{_++_};
@@ -48,25 +46,45 @@ pub struct Elements {
     pub chan_alloc_element: ChannelAllocation,
 }
 
-// Each as a part of a header; behind the last one stands the offset after it.
-pub enum PowerPart {
-    Read(PowerControl),
-    Refused(Refusal),
+// Each as a part of a header: why it is not read, or number 0. Next is the offset after it.
+pub struct PowerPart {
+    pub refusal: Refusal,
+    pub power_control_element: PowerControl,
 }
 
-pub enum GrantingPart {
-    Read(SlotGranting),
-    Refused(Refusal),
+pub struct GrantingPart {
+    pub refusal: Refusal,
+    pub slot_granting_element: SlotGranting,
 }
 
-pub enum AllocationPart {
-    Read(ChannelAllocation, usize),
-    Refused(Refusal),
+pub struct AllocationPart {
+    pub refusal: Refusal,
+    pub chan_alloc_element: ChannelAllocation,
+    pub next: usize,
 }
 
-pub enum ElementsPart {
-    Read(Elements, usize),
-    Refused(Refusal),
+pub struct ElementsPart {
+    pub refusal: Refusal,
+    pub elements: Elements,
+    pub next: usize,
+}
+
+fn past_end(bit: usize) -> Refusal
+    ensures { λ r. ⌜ r ≡ record { number = 1; bit = bit } ⌝ }
+{
+    Refusal {
+        number: refusal::READ_PAST_END,
+        bit,
+    }
+}
+
+fn none() -> Refusal
+    ensures { λ r. ⌜ r ≡ record { number = 0; bit = 0 } ⌝ }
+{
+    Refusal {
+        number: refusal::NONE,
+        bit: 0,
+    }
 }
 
 // The power control flag that is ahead, and the element where it is set.
@@ -76,23 +94,29 @@ fn read_power(a: Ahead) -> PowerPart
 {
     let left = a.left;
     if left < 1 {
-        return PowerPart::Refused(Refusal {
-            number: refusal::READ_PAST_END,
-            bit: a.at,
-        });
+        return PowerPart {
+            refusal: past_end(a.at),
+            power_control_element: PowerControl::Without,
+        };
     }
     if codec::take(a, 1) == 0 {
-        return PowerPart::Read(PowerControl::Without);
+        return PowerPart {
+            refusal: none(),
+            power_control_element: PowerControl::Without,
+        };
     }
     let b = codec::on(a, 1);
     if left < 5 {
-        return PowerPart::Refused(Refusal {
-            number: refusal::READ_PAST_END,
-            bit: b.at,
-        });
+        return PowerPart {
+            refusal: past_end(b.at),
+            power_control_element: PowerControl::Without,
+        };
     }
     let level = codec::take(b, 4);
-    PowerPart::Read(PowerControl::Level(level as u8))
+    PowerPart {
+        refusal: none(),
+        power_control_element: PowerControl::Level(level as u8),
+    }
 }
 
 // The slot granting flag that is ahead, and the element where it is set.
@@ -102,17 +126,23 @@ fn read_granting(a: Ahead) -> GrantingPart
 {
     let left = a.left;
     if left < 1 {
-        return GrantingPart::Refused(Refusal {
-            number: refusal::READ_PAST_END,
-            bit: a.at,
-        });
+        return GrantingPart {
+            refusal: past_end(a.at),
+            slot_granting_element: SlotGranting::Without,
+        };
     }
     if codec::take(a, 1) == 0 {
-        return GrantingPart::Read(SlotGranting::Without);
+        return GrantingPart {
+            refusal: none(),
+            slot_granting_element: SlotGranting::Without,
+        };
     }
-    match basic_slotgrant::read_slotgrant(codec::on(a, 1)) {
-        SlotgrantPart::Read(g) => GrantingPart::Read(SlotGranting::Element(g)),
-        SlotgrantPart::Refused(r) => GrantingPart::Refused(r),
+    let part = basic_slotgrant::read_slotgrant(codec::on(a, 1));
+    let refusal = part.refusal;
+    let grant = part.grant;
+    GrantingPart {
+        refusal,
+        slot_granting_element: SlotGranting::Element(grant),
     }
 }
 
@@ -123,20 +153,41 @@ fn read_allocation(a: Ahead) -> AllocationPart
 {
     let left = a.left;
     if left < 1 {
-        return AllocationPart::Refused(Refusal {
-            number: refusal::READ_PAST_END,
-            bit: a.at,
-        });
+        return AllocationPart {
+            refusal: past_end(a.at),
+            chan_alloc_element: ChannelAllocation::Without,
+            next: 0,
+        };
     }
     let b = codec::on(a, 1);
     if codec::take(a, 1) == 0 {
-        return AllocationPart::Read(ChannelAllocation::Without, b.at);
+        return AllocationPart {
+            refusal: none(),
+            chan_alloc_element: ChannelAllocation::Without,
+            next: b.at,
+        };
     }
-    match channel_allocation::read_channel_allocation(b) {
-        ChannelAllocationPart::Read(e, n) => {
-            AllocationPart::Read(ChannelAllocation::Element(e), n)
-        }
-        ChannelAllocationPart::Refused(r) => AllocationPart::Refused(r),
+    let part = channel_allocation::read_channel_allocation(b);
+    let refusal = part.refusal;
+    let element = part.element;
+    AllocationPart {
+        refusal,
+        chan_alloc_element: ChannelAllocation::Element(element),
+        next: part.next,
+    }
+}
+
+fn refused(refusal: Refusal) -> ElementsPart
+    ensures { λ r. ⌜ r .refusal ≡ refusal ⌝ }
+{
+    ElementsPart {
+        refusal,
+        elements: Elements {
+            power_control_element: PowerControl::Without,
+            slot_granting_element: SlotGranting::Without,
+            chan_alloc_element: ChannelAllocation::Without,
+        },
+        next: 0,
     }
 }
 
@@ -146,28 +197,31 @@ fn read_each(s: &[u8], c: Cursor, o: usize) -> ElementsPart
     ensures { λ r. ⌜ Reads elementsOut readElements (within (now (s .entry)) c) o r ⌝ }
 {
     let a = codec::load(s, c, o);
-    match read_power(a) {
-        PowerPart::Refused(r) => ElementsPart::Refused(r),
-        PowerPart::Read(power_control_element) => {
-            let b = codec::on(a, power_len(power_control_element));
-            match read_granting(b) {
-                GrantingPart::Refused(r) => ElementsPart::Refused(r),
-                GrantingPart::Read(slot_granting_element) => {
-                    let d = codec::on(b, granting_len(slot_granting_element));
-                    match read_allocation(d) {
-                        AllocationPart::Refused(r) => ElementsPart::Refused(r),
-                        AllocationPart::Read(chan_alloc_element, n) => ElementsPart::Read(
-                            Elements {
-                                power_control_element,
-                                slot_granting_element,
-                                chan_alloc_element,
-                            },
-                            n,
-                        ),
-                    }
-                }
-            }
-        }
+    let power = read_power(a);
+    let no_power = power.refusal;
+    let power_control_element = power.power_control_element;
+    if no_power.number != 0 {
+        return refused(no_power);
+    }
+    let b = codec::on(a, power_len(power_control_element));
+    let granting = read_granting(b);
+    let no_granting = granting.refusal;
+    let slot_granting_element = granting.slot_granting_element;
+    if no_granting.number != 0 {
+        return refused(no_granting);
+    }
+    let d = codec::on(b, granting_len(slot_granting_element));
+    let allocation = read_allocation(d);
+    let refusal = allocation.refusal;
+    let chan_alloc_element = allocation.chan_alloc_element;
+    ElementsPart {
+        refusal,
+        elements: Elements {
+            power_control_element,
+            slot_granting_element,
+            chan_alloc_element,
+        },
+        next: allocation.next,
     }
 }
 
@@ -191,14 +245,15 @@ pub(crate) fn read_elements(s: &[u8], c: Cursor, a: Ahead) -> ElementsPart
 {
     let o = a.at;
     if no_element(a) {
-        return ElementsPart::Read(
-            Elements {
+        return ElementsPart {
+            refusal: none(),
+            elements: Elements {
                 power_control_element: PowerControl::Without,
                 slot_granting_element: SlotGranting::Without,
                 chan_alloc_element: ChannelAllocation::Without,
             },
-            o + 3,
-        );
+            next: o + 3,
+        };
     }
     read_each(s, c, o)
 }

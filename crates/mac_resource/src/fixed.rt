@@ -5,6 +5,7 @@ use crate::piece::Piece;
 use codec::Ahead;
 use tetra_core::refusal;
 use tetra_core::refusal::Refusal;
+ghost use mathlib.Core.Path.{_≡_};
 ghost use Prim.Native.Nat.{_<_};
 ghost use Rattle.codec.specs.Ahead.{Ready, ReadsNext};
 ghost use Rattle.codec.specs.Row.{rowBits};
@@ -20,10 +21,27 @@ pub struct Fixed {
     pub addr_type: MacResourceAddrType,
 }
 
-// The first 16 bits as a part of a header.
-pub enum FixedPart {
-    Read(Fixed),
-    Refused(Refusal),
+// The first 16 bits as a part of a header: why they are not read, or number 0. A struct, as every part of a MAC-RESOURCE: the cases of an
+// enum lie on each other in memory, and what has to be kept apart there does not stay in registers.
+pub struct FixedPart {
+    pub refusal: Refusal,
+    pub fixed: Fixed,
+}
+
+fn refused(refusal: Refusal) -> FixedPart
+    ensures { λ r. ⌜ r .refusal ≡ refusal ⌝ }
+{
+    FixedPart {
+        refusal,
+        fixed: Fixed {
+            fill_bits: false,
+            pos_of_grant: 0,
+            encryption_mode: 0,
+            random_access_flag: false,
+            length_ind: 0,
+            addr_type: MacResourceAddrType::NullPdu,
+        },
+    }
 }
 
 // The first 16 bits of a header, which are ahead. The type is judged before any later field is missed.
@@ -34,36 +52,42 @@ pub(crate) fn read_fixed(a: Ahead) -> FixedPart
     let left = a.left;
     let o = a.at;
     if left < 2 {
-        return FixedPart::Refused(Refusal {
+        return refused(Refusal {
             number: refusal::READ_PAST_END,
             bit: o,
         });
     }
     if left < 16 {
         if codec::take(a, 2) != 0 {
-            return FixedPart::Refused(Refusal {
+            return refused(Refusal {
                 number: refusal::WRONG_PDU_TYPE,
                 bit: o,
             });
         }
         let widths = [1u8, 1, 2, 1, 6, 3];
-        return FixedPart::Refused(codec::short(&widths, left - 2, o + 2));
+        return refused(codec::short(&widths, left - 2, o + 2));
     }
     let x = codec::take(a, 16);
     if (x >> 14) % 4 != 0 {
-        return FixedPart::Refused(Refusal {
+        return refused(Refusal {
             number: refusal::WRONG_PDU_TYPE,
             bit: o,
         });
     }
-    FixedPart::Read(Fixed {
-        fill_bits: (x >> 13) % 2 != 0,
-        pos_of_grant: ((x >> 12) % 2) as u8,
-        encryption_mode: ((x >> 10) % 4) as u8,
-        random_access_flag: (x >> 9) % 2 != 0,
-        length_ind: ((x >> 3) % 64) as u8,
-        addr_type: addr_type::from_raw(x % 8),
-    })
+    FixedPart {
+        refusal: Refusal {
+            number: refusal::NONE,
+            bit: o,
+        },
+        fixed: Fixed {
+            fill_bits: (x >> 13) % 2 != 0,
+            pos_of_grant: ((x >> 12) % 2) as u8,
+            encryption_mode: ((x >> 10) % 4) as u8,
+            random_access_flag: (x >> 9) % 2 != 0,
+            length_ind: ((x >> 3) % 64) as u8,
+            addr_type: addr_type::from_raw(x % 8),
+        },
+    }
 }
 
 // The first 16 bits as one number.

@@ -1,19 +1,17 @@
 // Clause 21.4.3.1, MAC-RESOURCE: the first 16 bits, the address and, unless it is null, the elements. 16 bits, or 29 to 92.
 use crate::address;
-use crate::address::AddressPart;
 use crate::elements;
 use crate::elements::ChannelAllocation;
 use crate::elements::Elements;
-use crate::elements::ElementsPart;
 use crate::elements::PowerControl;
 use crate::elements::SlotGranting;
 use crate::enums::mac_resource_addr_type as addr_type;
 use crate::fixed;
 use crate::fixed::Fixed;
-use crate::fixed::FixedPart;
 use crate::piece;
 use crate::piece::Piece;
 use bits::word;
+use codec::Ahead;
 use tetra_core::address::TetraAddress;
 use tetra_core::bitbuffer;
 use tetra_core::bitbuffer::Cursor;
@@ -32,6 +30,7 @@ ghost use lib.ListN.{length};
 ghost use Rattle.bits.specs.Bits.{putBits};
 ghost use Rattle.tetra_core.specs.Laws.Windows.{Good};
 ghost use Rattle.codec.specs.Header.{within, Reads};
+ghost use Rattle.codec.specs.Ahead.{Held, Ready};
 ghost use Rattle.codec.specs.Row.{rowBits};
 ghost use Rattle.mac_resource.specs.Piece.{Holds};
 ghost use Rattle.mac_resource.specs.Address.{typeOf, isNull, addressLen, addressRow};
@@ -76,10 +75,11 @@ pub struct MacResourceRead {
     pub answer: MacResourceAnswer,
 }
 
-// A MAC-RESOURCE, and the offset after it.
-pub enum MacResourcePart {
-    Read(MacResource, usize),
-    Refused(Refusal),
+// A MAC-RESOURCE: why it is not read, or number 0; and the offset after it.
+pub struct MacResourcePart {
+    pub refusal: Refusal,
+    pub header: MacResource,
+    pub next: usize,
 }
 
 // The bits that a header takes up, or the number of the refusal.
@@ -171,33 +171,50 @@ fn header_of(f: Fixed, addr: TetraAddress, e: Elements) -> MacResource
     }
 }
 
-// The header at the offset o of a window.
-pub fn read_mac_resource(s: &[u8], c: Cursor, o: usize) -> MacResourcePart
-    requires { ⌜ Good (length (now s)) c ⌝ }
-    ensures { λ r. ⌜ Reads macResourceOut readMacResource (within (now (s .entry)) c) o r ⌝ }
+fn refused(refusal: Refusal) -> MacResourcePart
+    ensures { λ r. ⌜ r .refusal ≡ refusal ⌝ }
 {
-    let a = codec::load(s, c, o);
-    match fixed::read_fixed(a) {
-        FixedPart::Refused(r) => MacResourcePart::Refused(r),
-        FixedPart::Read(f) => {
-            let b = codec::on(a, 16);
-            let t = f.addr_type;
-            match address::read_address(b, t) {
-                AddressPart::Refused(r) => MacResourcePart::Refused(r),
-                AddressPart::Read(addr) => {
-                    let d = codec::on(b, address::address_len(t));
-                    if address::is_null(addr) {
-                        return MacResourcePart::Read(null_of(f.length_ind), d.at);
-                    }
-                    match elements::read_elements(s, c, d) {
-                        ElementsPart::Refused(r) => MacResourcePart::Refused(r),
-                        ElementsPart::Read(e, n) => {
-                            MacResourcePart::Read(header_of(f, addr, e), n)
-                        }
-                    }
-                }
-            }
-        }
+    MacResourcePart {
+        refusal,
+        header: null_of(0),
+        next: 0,
+    }
+}
+
+// The header of a window whose bits are ahead.
+pub fn read_mac_resource(s: &[u8], c: Cursor, a: Ahead) -> MacResourcePart
+    requires { ⌜ Good (length (now s)) c × Held (within (now s) c) a × Ready a 64 ⌝ }
+    ensures { λ r. ⌜ Reads macResourceOut readMacResource (within (now (s .entry)) c) (a .at) r ⌝ }
+{
+    let first = fixed::read_fixed(a);
+    let no_fixed = first.refusal;
+    let f = first.fixed;
+    if no_fixed.number != 0 {
+        return refused(no_fixed);
+    }
+    let b = codec::on(a, 16);
+    let t = f.addr_type;
+    let second = address::read_address(b, t);
+    let no_address = second.refusal;
+    let addr = second.addr;
+    if no_address.number != 0 {
+        return refused(no_address);
+    }
+    let d = codec::on(b, address::address_len(t));
+    if address::is_null(addr) {
+        return MacResourcePart {
+            refusal: no_address,
+            header: null_of(f.length_ind),
+            next: d.at,
+        };
+    }
+    let third = elements::read_elements(s, c, d);
+    let refusal = third.refusal;
+    let e = third.elements;
+    MacResourcePart {
+        refusal,
+        header: header_of(f, addr, e),
+        next: third.next,
     }
 }
 
@@ -214,15 +231,18 @@ pub fn from_bitbuf(s: &[u8], c: Cursor) -> MacResourceRead
             }),
         };
     }
-    match read_mac_resource(s, c, 0) {
-        MacResourcePart::Read(h, n) => MacResourceRead {
-            cursor: codec::moved_by(c, n),
-            answer: MacResourceAnswer::Read(h),
-        },
-        MacResourcePart::Refused(r) => MacResourceRead {
+    let part = read_mac_resource(s, c, codec::load(s, c, 0));
+    let refusal = part.refusal;
+    let header = part.header;
+    if refusal.number != 0 {
+        return MacResourceRead {
             cursor: c,
-            answer: MacResourceAnswer::Refused(r),
-        },
+            answer: MacResourceAnswer::Refused(refusal),
+        };
+    }
+    MacResourceRead {
+        cursor: codec::moved_by(c, part.next),
+        answer: MacResourceAnswer::Read(header),
     }
 }
 

@@ -1,5 +1,7 @@
 // Why a call is refused, by number. Takes the place of PduParseErr and of every assertion of the Rust.
 
+// Nothing is refused.
+pub const NONE: u8 = 0;
 // A read past the window's end, or of more than 64 bits.
 pub const READ_PAST_END: u8 = 1;
 // A write past the window's end or of more than 64 bits; a PDU longer than what is left of its block.

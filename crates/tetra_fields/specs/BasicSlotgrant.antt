@@ -7,8 +7,8 @@ use lib.Dec.{eqb, leb}
 use Rattle.tetra_core.specs.Refusal.{unless}
 use Rattle.tetra_core.specs.declared.bitbuffer.Cursor.{Cursor}
 use Rattle.tetra_core.specs.declared.bitbuffer.Moved.{Moved}
-use Rattle.codec.specs.Reader.{Out, got, refused, Reader, done, field, _>>=_}
-use Rattle.codec.specs.Header.{atCursor}
+use Rattle.codec.specs.Reader.{Out, got, Reader, done, field, _>>=_}
+use Rattle.codec.specs.Header.{atCursor, partOut}
 use Rattle.codec.specs.Row.{Cell, cell, rowBits}
 use Rattle.codec.specs.Write.{writeAt, writtenAt}
 use Rattle.tetra_fields.specs.declared.enums.basic_slotgrant_cap_alloc.BasicSlotgrantCapAlloc.{BasicSlotgrantCapAlloc}
@@ -19,7 +19,6 @@ use Rattle.tetra_fields.specs.declared.fields.basic_slotgrant.BasicSlotg
 use Rattle.tetra_fields.specs.declared.fields.basic_slotgrant.SlotgrantAnswer.{SlotgrantAnswer}
 use Rattle.tetra_fields.specs.declared.fields.basic_slotgrant.SlotgrantRead.{SlotgrantRead}
 use Rattle.tetra_fields.specs.declared.fields.basic_slotgrant.SlotgrantPart.{SlotgrantPart}
-use Rattle.tetra_fields.specs.declared.fields.basic_slotgrant.SlotgrantPart.the-variants.{Read, Refused}
 
 -- ---- the number of each case
 
@@ -85,8 +84,7 @@ readSlotgrant = do
 
 -- the answer of a part at the offset o as an outcome
 abbrev pub slotgrantOut : ℕ → List Bool → SlotgrantPart → Out BasicSlotgrant
-slotgrantOut o h (Read g) = got g (drop (o + 8) h) (o + 8)
-slotgrantOut o h (Refused r) = refused (r .number) (r .bit)
+slotgrantOut o h p = partOut (p .refusal) (got (p .grant) (drop (o + 8) h) (o + 8))
 
 unfoldable pub slotgrantAt : List ℕ → Cursor → SlotgrantRead
 slotgrantAt = atCursor readSlotgrant (λ c a. record { cursor = c; answer = a }) SlotgrantAnswer.Read SlotgrantAnswer.Refused

@@ -10,8 +10,8 @@ use Rattle.bits.specs.Bits.{digit}
 use Rattle.tetra_core.specs.Refusal.{unless, first}
 use Rattle.tetra_core.specs.declared.bitbuffer.Cursor.{Cursor}
 use Rattle.tetra_core.specs.declared.bitbuffer.Moved.{Moved}
-use Rattle.codec.specs.Reader.{Out, got, refused, Reader, done, refuse, field, here, choose, _>>=_}
-use Rattle.codec.specs.Header.{atCursor}
+use Rattle.codec.specs.Reader.{Out, got, Reader, done, refuse, field, here, choose, _>>=_}
+use Rattle.codec.specs.Header.{atCursor, partOut}
 use Rattle.codec.specs.Row.{Cell, cell, rowBits}
 use Rattle.codec.specs.Write.{writeAt, writtenAt}
 use Rattle.codec.specs.Cases.{flag}
@@ -28,7 +28,6 @@ use Rattle.tetra_fields.specs.declared.fields.channel_allocation.ChanAll
 use Rattle.tetra_fields.specs.declared.fields.channel_allocation.ChannelAllocationAnswer.{ChannelAllocationAnswer}
 use Rattle.tetra_fields.specs.declared.fields.channel_allocation.ChannelAllocationRead.{ChannelAllocationRead}
 use Rattle.tetra_fields.specs.declared.fields.channel_allocation.ChannelAllocationPart.{ChannelAllocationPart}
-use Rattle.tetra_fields.specs.declared.fields.channel_allocation.ChannelAllocationPart.the-variants.{Read, Refused}
 use Rattle.tetra_fields.specs.declared.fields.channel_allocation.ChanAllocLen.{ChanAllocLen}
 
 -- ---- the number of each case
@@ -81,8 +80,7 @@ readMonPatterns = do
       (done (record { «mon_pattern» = pattern; «frame18_mon_pattern» = Without }))
 
 abbrev pub monPatternsOut : List Bool → MonPatternsPart → Out MonPatterns
-monPatternsOut h (MonPatternsPart.Read p n) = got p (drop n h) n
-monPatternsOut h (MonPatternsPart.Refused r) = refused (r .number) (r .bit)
+monPatternsOut h p = partOut (p .refusal) (got (p .patterns) (drop (p .next) h) (p .next))
 
 -- "a set extension flag is refused when read; augmented is refused after the patterns are read"
 unfoldable pub readChannelAllocation : Reader ChanAllocElement
@@ -126,8 +124,7 @@ elementOf x p =
 
 -- a part's answer as an outcome
 abbrev pub channelAllocationOut : List Bool → ChannelAllocationPart → Out ChanAllocElement
-channelAllocationOut h (Read e n) = got e (drop n h) n
-channelAllocationOut h (Refused r) = refused (r .number) (r .bit)
+channelAllocationOut h p = partOut (p .refusal) (got (p .element) (drop (p .next) h) (p .next))
 
 unfoldable pub channelAllocationAt : List ℕ → Cursor → ChannelAllocationRead
 channelAllocationAt =

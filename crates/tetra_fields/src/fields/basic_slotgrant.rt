@@ -36,10 +36,23 @@ pub struct SlotgrantRead {
     pub answer: SlotgrantAnswer,
 }
 
-// A slot grant as a part of a header.
-pub enum SlotgrantPart {
-    Read(BasicSlotgrant),
-    Refused(Refusal),
+// A slot grant as a part of a header: why it is not read, or number 0. A struct, as every part of a MAC-RESOURCE: the cases of an enum lie on
+// each other in memory, and what has to be kept apart there does not stay in registers.
+pub struct SlotgrantPart {
+    pub refusal: Refusal,
+    pub grant: BasicSlotgrant,
+}
+
+fn refused(refusal: Refusal) -> SlotgrantPart
+    ensures { λ r. ⌜ r .refusal ≡ refusal ⌝ }
+{
+    SlotgrantPart {
+        refusal,
+        grant: BasicSlotgrant {
+            capacity_allocation: BasicSlotgrantCapAlloc::FirstSubslotGranted,
+            granting_delay: BasicSlotgrantGrantingDelay::CapAllocAtNextOpportunity,
+        },
+    }
 }
 
 // The slot grant that is ahead.
@@ -50,13 +63,19 @@ pub fn read_slotgrant(a: Ahead) -> SlotgrantPart
     let left = a.left;
     if left < 8 {
         let widths = [4u8, 4];
-        return SlotgrantPart::Refused(codec::short(&widths, left, a.at));
+        return refused(codec::short(&widths, left, a.at));
     }
     let x = codec::take(a, 8);
-    SlotgrantPart::Read(BasicSlotgrant {
-        capacity_allocation: cap_alloc::from_raw((x >> 4) % 16),
-        granting_delay: granting_delay::from_raw((x % 16) as u8),
-    })
+    SlotgrantPart {
+        refusal: Refusal {
+            number: refusal::NONE,
+            bit: 0,
+        },
+        grant: BasicSlotgrant {
+            capacity_allocation: cap_alloc::from_raw((x >> 4) % 16),
+            granting_delay: granting_delay::from_raw((x % 16) as u8),
+        },
+    }
 }
 
 // Reads a slot grant at the cursor.
@@ -72,15 +91,18 @@ pub fn from_bitbuf(s: &[u8], c: Cursor) -> SlotgrantRead
             }),
         };
     }
-    match read_slotgrant(codec::load(s, c, 0)) {
-        SlotgrantPart::Read(g) => SlotgrantRead {
-            cursor: codec::moved_by(c, 8),
-            answer: SlotgrantAnswer::Read(g),
-        },
-        SlotgrantPart::Refused(r) => SlotgrantRead {
+    let part = read_slotgrant(codec::load(s, c, 0));
+    let refusal = part.refusal;
+    let grant = part.grant;
+    if refusal.number != 0 {
+        return SlotgrantRead {
             cursor: c,
-            answer: SlotgrantAnswer::Refused(r),
-        },
+            answer: SlotgrantAnswer::Refused(refusal),
+        };
+    }
+    SlotgrantRead {
+        cursor: codec::moved_by(c, 8),
+        answer: SlotgrantAnswer::Read(grant),
     }
 }
 

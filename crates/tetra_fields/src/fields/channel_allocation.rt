@@ -47,10 +47,10 @@ pub struct ChanAllocElement {
     pub cell_change_flag: bool,
     // 12
     pub carrier_num: u16,
+    // 2 where mon_pattern is 0, written last. It stands here for the reason that Refusal gives.
+    pub frame18_mon_pattern: Frame18Pattern,
     // 2, after the extension flag
     pub mon_pattern: u8,
-    // 2 where mon_pattern is 0
-    pub frame18_mon_pattern: Frame18Pattern,
 }
 
 // A channel allocation, or why there is none.
@@ -65,10 +65,11 @@ pub struct ChannelAllocationRead {
     pub answer: ChannelAllocationAnswer,
 }
 
-// A channel allocation as a part of a header, and the offset after it.
-pub enum ChannelAllocationPart {
-    Read(ChanAllocElement, usize),
-    Refused(Refusal),
+// A channel allocation as a part of a header: why it is not read, or number 0; and the offset after it.
+pub struct ChannelAllocationPart {
+    pub refusal: Refusal,
+    pub element: ChanAllocElement,
+    pub next: usize,
 }
 
 // The monitoring patterns as a part of a channel allocation.
@@ -77,9 +78,10 @@ struct MonPatterns {
     pub frame18_mon_pattern: Frame18Pattern,
 }
 
-enum MonPatternsPart {
-    Read(MonPatterns, usize),
-    Refused(Refusal),
+struct MonPatternsPart {
+    refusal: Refusal,
+    patterns: MonPatterns,
+    next: usize,
 }
 
 // The bits that a channel allocation takes up, or the number of the refusal.
@@ -115,6 +117,39 @@ pub fn frame18_into_raw(p: Frame18Pattern) -> u64
     }
 }
 
+fn patterns_refused(refusal: Refusal) -> MonPatternsPart
+    ensures { λ r. ⌜ r .refusal ≡ refusal ⌝ }
+{
+    MonPatternsPart {
+        refusal,
+        patterns: MonPatterns {
+            mon_pattern: 0,
+            frame18_mon_pattern: Frame18Pattern::Without,
+        },
+        next: 0,
+    }
+}
+
+fn patterns_read(
+    mon_pattern: u8,
+    frame18_mon_pattern: Frame18Pattern,
+    next: usize,
+) -> MonPatternsPart
+    ensures { λ r. ⌜ r ≡ record { refusal = record { number = 0; bit = 0 }; patterns = record { «mon_pattern» = «mon_pattern»; «frame18_mon_pattern» = «frame18_mon_pattern» }; next = next } ⌝ }
+{
+    MonPatternsPart {
+        refusal: Refusal {
+            number: refusal::NONE,
+            bit: 0,
+        },
+        patterns: MonPatterns {
+            mon_pattern,
+            frame18_mon_pattern,
+        },
+        next,
+    }
+}
+
 // The monitoring pattern that is ahead, and the frame-18 pattern where it is 0.
 fn read_mon_patterns(a: Ahead) -> MonPatternsPart
     requires { ⌜ Ready a 4 ⌝ }
@@ -122,7 +157,7 @@ fn read_mon_patterns(a: Ahead) -> MonPatternsPart
 {
     let left = a.left;
     if left < 2 {
-        return MonPatternsPart::Refused(Refusal {
+        return patterns_refused(Refusal {
             number: refusal::READ_PAST_END,
             bit: a.at,
         });
@@ -131,28 +166,16 @@ fn read_mon_patterns(a: Ahead) -> MonPatternsPart
     let b = codec::on(a, 2);
     let o = b.at;
     if pattern != 0 {
-        return MonPatternsPart::Read(
-            MonPatterns {
-                mon_pattern: pattern as u8,
-                frame18_mon_pattern: Frame18Pattern::Without,
-            },
-            o,
-        );
+        return patterns_read(pattern as u8, Frame18Pattern::Without, o);
     }
     if left < 4 {
-        return MonPatternsPart::Refused(Refusal {
+        return patterns_refused(Refusal {
             number: refusal::READ_PAST_END,
             bit: o,
         });
     }
     let v = codec::take(b, 2);
-    MonPatternsPart::Read(
-        MonPatterns {
-            mon_pattern: pattern as u8,
-            frame18_mon_pattern: Frame18Pattern::Pattern(v as u8),
-        },
-        o + 2,
-    )
+    patterns_read(pattern as u8, Frame18Pattern::Pattern(v as u8), o + 2)
 }
 
 // The channel allocation whose first 23 bits are the number x, with its patterns.
@@ -172,6 +195,20 @@ fn element_of(x: u64, p: MonPatterns) -> ChanAllocElement
     }
 }
 
+fn refused(refusal: Refusal) -> ChannelAllocationPart
+    ensures { λ r. ⌜ r .refusal ≡ refusal ⌝ }
+{
+    let none = MonPatterns {
+        mon_pattern: 0,
+        frame18_mon_pattern: Frame18Pattern::Without,
+    };
+    ChannelAllocationPart {
+        refusal,
+        element: element_of(0, none),
+        next: 0,
+    }
+}
+
 // The channel allocation that is ahead.
 pub fn read_channel_allocation(a: Ahead) -> ChannelAllocationPart
     requires { ⌜ Ready a 27 ⌝ }
@@ -181,26 +218,31 @@ pub fn read_channel_allocation(a: Ahead) -> ChannelAllocationPart
     let o = a.at;
     if left < 23 {
         let widths = [2u8, 4, 2, 1, 1, 12, 1];
-        return ChannelAllocationPart::Refused(codec::short(&widths, left, o));
+        return refused(codec::short(&widths, left, o));
     }
     let x = codec::take(a, 23);
     if x % 2 != 0 {
-        return ChannelAllocationPart::Refused(Refusal {
+        return refused(Refusal {
             number: refusal::EXTENDED_CARRIER,
             bit: o + 22,
         });
     }
-    match read_mon_patterns(codec::on(a, 23)) {
-        MonPatternsPart::Refused(r) => ChannelAllocationPart::Refused(r),
-        MonPatternsPart::Read(p, n) => {
-            if (x >> 15) % 4 == 0 {
-                return ChannelAllocationPart::Refused(Refusal {
-                    number: refusal::AUGMENTED,
-                    bit: o + 6,
-                });
-            }
-            ChannelAllocationPart::Read(element_of(x, p), n)
-        }
+    let part = read_mon_patterns(codec::on(a, 23));
+    let refusal = part.refusal;
+    let patterns = part.patterns;
+    if refusal.number != 0 {
+        return refused(refusal);
+    }
+    if (x >> 15) % 4 == 0 {
+        return refused(Refusal {
+            number: refusal::AUGMENTED,
+            bit: o + 6,
+        });
+    }
+    ChannelAllocationPart {
+        refusal,
+        element: element_of(x, patterns),
+        next: part.next,
     }
 }
 
@@ -217,15 +259,18 @@ pub fn from_bitbuf(s: &[u8], c: Cursor) -> ChannelAllocationRead
             }),
         };
     }
-    match read_channel_allocation(codec::load(s, c, 0)) {
-        ChannelAllocationPart::Read(e, n) => ChannelAllocationRead {
-            cursor: codec::moved_by(c, n),
-            answer: ChannelAllocationAnswer::Read(e),
-        },
-        ChannelAllocationPart::Refused(r) => ChannelAllocationRead {
+    let part = read_channel_allocation(codec::load(s, c, 0));
+    let refusal = part.refusal;
+    let element = part.element;
+    if refusal.number != 0 {
+        return ChannelAllocationRead {
             cursor: c,
-            answer: ChannelAllocationAnswer::Refused(r),
-        },
+            answer: ChannelAllocationAnswer::Refused(refusal),
+        };
+    }
+    ChannelAllocationRead {
+        cursor: codec::moved_by(c, part.next),
+        answer: ChannelAllocationAnswer::Read(element),
     }
 }
 

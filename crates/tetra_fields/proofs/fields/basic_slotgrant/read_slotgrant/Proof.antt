@@ -9,7 +9,7 @@ use Rattle.tetra_fields.proofs.fields.basic_slotgrant.read_slotgrant.Ti
 returns : tie.Need-returns
 unfolding readSlotgrant
 returns c = record {
-  of = λ h e. record { means = rw (c .short .ensures, starved-next readSlotgrant (4 ∷ 4 ∷ []) (λ _ _. tt) e (c .before .before .if1 .taken)) };
+  of = λ h e. record { means = rw (c .refused .ensures, c .before .short .ensures, starved-next readSlotgrant (4 ∷ 4 ∷ []) (λ _ _. tt) e (c .before .before .before .if1 .taken)) };
 }
 
 returns-2 : tie.Need-returns-2
@@ -25,6 +25,7 @@ read-slotgrant-spec =
     tie.close
     (tie.spec
     (λ c. search needs)
+    (λ c κs. search needs)
     (λ c κs. search needs)
     returns
     (λ c κs. search needs)

@@ -1,4 +1,6 @@
+use mathlib.Core.Path.{refl}
 use borrow.Author.Needs.{needs}
+use borrow.Author.Tests.{eq-eqb, ne-eqb}
 use Rattle.tetra_core.specs.Laws.Windows.{good-facts}
 use Rattle.codec.specs.Header.{bad-seen, good-seen, ends}
 use Rattle.codec.specs.Ahead.{next-read}
@@ -13,33 +15,35 @@ returns c = rw (bad-seen _ _ (c .before .good-window .ensures) (c .if1 .taken))
 load-requires : tie.Need-load-requires
 load-requires c κs = good-facts _ _ (good-seen _ _ (c .before .good-window .ensures) (c .if1 .left))
 
-moved-by-requires : tie.Need-moved-by-requires
-moved-by-requires c κs =
-    let r = c .before .before .before in
-    let l = r .before in
-    ends readChannelAllocation _ _ (good-facts _ _ (good-seen _ _ (l .before .before .good-window .ensures) (l .before .if1 .left)))
-    (next-read (λ _. channelAllocationOut) (r .read-channel-allocation .ensures) (l .load .ensures .0) (l .load .ensures .2) (c .before .e .given .1))
-
 returns-2 : tie.Need-returns-2
 unfolding channelAllocationAt
 returns-2 c =
-    let m = c .before .before in
-    let r = m .before .before in
+    let r = c .before .before .before .before in
     let l = r .before in
     rw (
-      c .moved-by .ensures,
       good-seen _ _ (l .before .before .good-window .ensures) (l .before .if1 .left),
-      next-read (λ _. channelAllocationOut) (r .read-channel-allocation .ensures) (l .load .ensures .0) (l .load .ensures .2) (m .e .given .1),
+      next-read (λ _. channelAllocationOut) (r .read-channel-allocation .ensures) (l .load .ensures .0) (l .load .ensures .2) refl,
+      ne-eqb _ _ (c .if2 .taken),
     )
+
+moved-by-requires : tie.Need-moved-by-requires
+moved-by-requires c κs =
+    let r = c .before .before .before .before in
+    let l = r .before in
+    ends readChannelAllocation _ _ (good-facts _ _ (good-seen _ _ (l .before .before .good-window .ensures) (l .before .if1 .left)))
+    (rw (eq-eqb _ _ (c .if2 .left)) at (next-read (λ _. channelAllocationOut) (r .read-channel-allocation .ensures) (l .load .ensures .0) (l .load .ensures .2) refl))
 
 returns-3 : tie.Need-returns-3
 unfolding channelAllocationAt
 returns-3 c =
-    let r = c .before .before .before in
+    let i = c .before in
+    let r = i .before .before .before .before in
     let l = r .before in
     rw (
+      c .moved-by .ensures,
       good-seen _ _ (l .before .before .good-window .ensures) (l .before .if1 .left),
-      next-read (λ _. channelAllocationOut) (r .read-channel-allocation .ensures) (l .load .ensures .0) (l .load .ensures .2) (c .before .r .given .1),
+      next-read (λ _. channelAllocationOut) (r .read-channel-allocation .ensures) (l .load .ensures .0) (l .load .ensures .2) refl,
+      eq-eqb _ _ (i .if2 .left),
     )
 
 pub from-bitbuf-spec : {M : Type 1} → statement M
@@ -50,8 +54,6 @@ from-bitbuf-spec =
     returns
     load-requires
     (λ c κs. search needs)
-    (λ c. search needs)
-    moved-by-requires
-    (λ c. search needs)
     returns-2
+    moved-by-requires
     returns-3)

@@ -1,3 +1,4 @@
+use mathlib.Core.Path.{refl}
 use mathlib.Core.List.{[], _∷_}
 use native.Mathlib.Omega.{arith}
 use borrow.Author.Needs.{needs}
@@ -14,17 +15,22 @@ unfolding readChannelAllocation
 returns c = record {
   of = λ h e. record {
     means = rw (
-      c .short .ensures,
-      starved-next readChannelAllocation (2 ∷ 4 ∷ 2 ∷ 1 ∷ 1 ∷ 12 ∷ 1 ∷ []) (λ _ _ _ _ _ _ _ _ _. tt) e (c .before .before .if1 .taken),
+      c .refused .ensures,
+      c .before .short .ensures,
+      starved-next readChannelAllocation (2 ∷ 4 ∷ 2 ∷ 1 ∷ 1 ∷ 12 ∷ 1 ∷ []) (λ _ _ _ _ _ _ _ _ _. tt) e (c .before .before .before .if1 .taken),
     );
   };
 }
 
 returns-2 : tie.Need-returns-2
 unfolding readChannelAllocation
-returns-2 c = record {
-  of = λ h e. record { means = rw (fed readChannelAllocation (c .before .take .ensures .word h e (c .before .before .if1 .left)), ne-eqb _ _ (c .if2 .taken)) };
-}
+returns-2 c =
+    let t = c .before .before in
+    record {
+      of = λ h e. record {
+        means = rw (c .refused2 .ensures, fed readChannelAllocation (t .take .ensures .word h e (t .before .if1 .left)), ne-eqb _ _ (c .before .if2 .taken));
+      };
+    }
 
 read-mon-patterns-requires : tie.Need-read-mon-patterns-requires
 read-mon-patterns-requires c κs =
@@ -34,17 +40,19 @@ read-mon-patterns-requires c κs =
 returns-3 : tie.Need-returns-3
 unfolding readChannelAllocation
 returns-3 c =
-    let m = c .before .before .before .before in
+    let i = c .before in
+    let m = i .before .before .before .before in
     let t = m .before .before .before in
     let l = t .before .if1 .left in
     record {
       of = λ h e. record {
         means = rw (
+          c .refused3 .ensures,
           fed readChannelAllocation (t .take .ensures .word h e l),
           eq-eqb _ _ (m .before .before .if2 .left),
           run-bind,
-          read (rw (m .before .on .ensures) at (m .read-mon-patterns .ensures) .of h (held-on 23 e l)) (c .before .before .p .given .1),
-          eq-eqb _ _ (c .if3 .taken),
+          read (rw (m .before .on .ensures) at (m .read-mon-patterns .ensures) .of h (held-on 23 e l)) refl,
+          ne-eqb _ _ (i .if3 .taken),
         );
       };
     }
@@ -52,16 +60,20 @@ returns-3 c =
 returns-4 : tie.Need-returns-4
 unfolding readChannelAllocation
 returns-4 c =
-    let m = c .before .before .before in
+    let i = c .before in
+    let m = i .before .before .before .before .before in
     let t = m .before .before .before in
     let l = t .before .if1 .left in
     record {
       of = λ h e. record {
         means = rw (
+          c .refused4 .ensures,
           fed readChannelAllocation (t .take .ensures .word h e l),
           eq-eqb _ _ (m .before .before .if2 .left),
           run-bind,
-          read (rw (m .before .on .ensures) at (m .read-mon-patterns .ensures) .of h (held-on 23 e l)) (c .before .r .given .1),
+          read (rw (m .before .on .ensures) at (m .read-mon-patterns .ensures) .of h (held-on 23 e l)) refl,
+          eq-eqb _ _ (i .before .if3 .left),
+          eq-eqb _ _ (i .if4 .taken),
         );
       };
     }
@@ -70,7 +82,7 @@ returns-5 : tie.Need-returns-5
 unfolding readChannelAllocation
 returns-5 c =
     let i = c .before in
-    let m = i .before .before .before .before in
+    let m = i .before .before .before .before .before in
     let t = m .before .before .before in
     let l = t .before .if1 .left in
     record {
@@ -79,8 +91,9 @@ returns-5 c =
           fed readChannelAllocation (t .take .ensures .word h e l),
           eq-eqb _ _ (m .before .before .if2 .left),
           run-bind,
-          read (rw (m .before .on .ensures) at (m .read-mon-patterns .ensures) .of h (held-on 23 e l)) (i .before .before .p .given .1),
-          ne-eqb _ _ (i .if3 .left),
+          read (rw (m .before .on .ensures) at (m .read-mon-patterns .ensures) .of h (held-on 23 e l)) refl,
+          eq-eqb _ _ (i .before .if3 .left),
+          ne-eqb _ _ (i .if4 .left),
           c .element-of .ensures,
         );
       };
@@ -92,16 +105,18 @@ read-channel-allocation-spec =
     (tie.spec
     (λ c. search needs)
     (λ c κs. search needs)
+    (λ c κs. search needs)
     returns
     (λ c κs. search needs)
     (λ c. search needs)
+    (λ c κs. search needs)
     returns-2
     (λ c κs. search needs)
     read-mon-patterns-requires
-    (λ c. search needs)
-    (λ c. search needs)
-    (λ c. search needs)
+    (λ c κs. search needs)
     returns-3
+    (λ c. search needs)
     (λ c κs. search needs)
     returns-4
+    (λ c κs. search needs)
     returns-5)
