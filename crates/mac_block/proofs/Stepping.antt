@@ -4,15 +4,16 @@ use mathlib.Core.Bool.{Bool, true, false}
 use mathlib.Core.Option.{Option, none, some}
 use mathlib.Core.List.{List}
 use Prim.Native.Nat.{ℕ, _+_, _-_, _*_, _/_, _%_, _^_, _≤_, _<_}
-use native.Mathlib.Nat.{zero-add, add-zero, div-one}
+use native.Mathlib.Nat.{zero-add, add-zero, div-one, mod-eq-of-lt}
 use native.Mathlib.Omega.{arith}
 use borrow.Author.Tests.{le-leb, lt-leb}
 use lib.ListN.{length, take, drop}
-use lib.Seq.{drop-at}
-use Rattle.bits.specs.Bits.{val, bitsAt, getBits}
+use lib.Seq.{take-at, drop-at}
+use Rattle.bits.specs.Bits.{val, bitsOfNat, bitsAt, getBits}
 use Rattle.bits.specs.Laws.Reads.{length-bitsAt, bitsAt-add, getBits-part}
 use Rattle.codec.specs.Reader.{Out, run}
-use Rattle.codec.specs.Header.{within}
+use Rattle.bits.specs.Laws.Values.{length-bitsOfNat, val-bitsOfNat}
+use Rattle.codec.specs.Header.{Word, within}
 use Rattle.mac_resource.specs.declared.mac_resource.MacResource.{MacResource}
 use Rattle.mac_resource.specs.MacResource.{readMacResource}
 use Rattle.mac_block.specs.declared.fill.LastOne.{LastOne}
@@ -49,6 +50,14 @@ field-at v p left o w h = ap val (part-part v p left o w h)
 
 pub frame-near : (v : List ℕ) (p left : ℕ) → left < 16 → p + left ≤ 8 * length v → frame (bitsAt v p left) ≡ Frame.End
 frame-near v p left h k = frame-short (bitsAt v p left) (rw (length-bitsAt v p left k) h)
+
+-- a word of the bits from p on is what is read there
+pub word-read : (v : List ℕ) (p left n : ℕ) {x : ℕ} → Word (bitsAt v p left) 0 n x → n ≤ left → x ≡ getBits v p n
+unfolding getBits
+word-read v p left n {x} w h =
+    sym (mod-eq-of-lt (w .small))
+    ∙ sym (val-bitsOfNat n x)
+    ∙ ap val (sym (take-at (bitsOfNat n x) _ n (length-bitsOfNat n x)) ∙ ap (take n) (sym (w .bits)) ∙ first-part v p left n h)
 
 -- type, length and address type out of one word of 16 bits
 pub frame-word : (v : List ℕ) (p left : ℕ) {x : ℕ} → 16 ≤ left → p + left ≤ 8 * length v → x ≡ getBits v p 16

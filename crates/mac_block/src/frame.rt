@@ -1,5 +1,5 @@
 // Where a PDU of a block ends, by the bits left, the type, the length and the address type alone.
-use bits::word;
+use tetra_core::bitbuffer::Cursor;
 use tetra_core::quantity;
 use tetra_core::quantity::Octets;
 use tetra_core::refusal;
@@ -69,13 +69,18 @@ fn frame_of(left: usize, pdu_type: u8, length: u8, address_type: u8) -> Frame
 
 // What begins at a bit of a block that ends left bits on.
 pub(crate) fn frame_at(block: &[u8], bit: usize, left: usize) -> Frame
-    requires { ⌜ (bit + left ≤ 8 * length (now block)) × (bit ≤ 488) ⌝ }
+    requires { ⌜ (bit + left ≤ 8 * length (now block)) × (bit + left ≤ 488) ⌝ }
     ensures { λ r. ⌜ r ≡ frame (bitsAt (now (block .entry)) bit left) ⌝ }
 {
     if left < FRAME_BITS {
         return Frame::End;
     }
-    let x = word::get_bits(block, bit, FRAME_BITS);
+    let rest = Cursor {
+        start: bit,
+        pos: bit,
+        end: bit + left,
+    };
+    let x = codec::take(codec::load(block, rest, 0), FRAME_BITS);
     let pdu_type = ((x >> 14) % 4) as u8;
     let length = ((x >> 3) % 64) as u8;
     let address_type = (x % 8) as u8;

@@ -5,7 +5,6 @@ use crate::frame;
 use crate::frame::Frame;
 use mac_resource::mac_resource as resource;
 use mac_resource::mac_resource::MacResource;
-use mac_resource::mac_resource::MacResourcePart;
 use tetra_core::bitbuffer::Cursor;
 use tetra_core::refusal;
 use tetra_core::refusal::Refusal;
@@ -105,16 +104,17 @@ fn read_pdu(block: &[u8], bit: usize, size: usize) -> BlockEntry
         pos: bit,
         end: bit + size,
     };
-    match resource::read_mac_resource(block, window, 0) {
-        MacResourcePart::Read(header, header_bits) => {
-            behind_header(block, bit, size, header, header_bits)
-        }
-        MacResourcePart::Refused(refusal) => BlockEntry::Refused(RefusedPdu {
+    let part = resource::read_mac_resource(block, window, codec::load(block, window, 0));
+    let refusal = part.refusal;
+    let header = part.header;
+    if refusal.number != 0 {
+        return BlockEntry::Refused(RefusedPdu {
             bit,
             end: PduEnd::At(bit + size),
             refusal,
-        }),
+        });
     }
+    behind_header(block, bit, size, header, part.next)
 }
 
 // What stands at a bit of a block of so many bits.
