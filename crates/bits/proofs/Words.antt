@@ -3,14 +3,14 @@ use Prim.Native.Nat.{ℕ, suc, _+_, _-_, _*_, _/_, _%_, _^_, _≤_, _<_}
 use mathlib.Core.Path.{_≡_, refl, sym, ap, _∙_}
 use mathlib.Core.List.{List, _∷_, _++_, append-assoc}
 use mathlib.Core.Bool.{Bool}
-use native.Mathlib.Nat.{add-zero, add-sub-of-le, mod-mod, mod-eq-of-lt, mul-assoc, add-mul, add-assoc, pow-zero, div-one, mul-add}
+use native.Mathlib.Nat.{zero-add, add-zero, add-sub-of-le, lt-of-lt-of-le, mod-mod, mod-eq-of-lt, mul-assoc, add-mul, add-assoc, pow-zero, div-one, mul-add}
 use native.Mathlib.Omega.{arith}
 use lib.ListN.{length, getD, take, drop, set, length-append, take-append-drop}
 use lib.Seq.{length-take-le, take-at, drop-at, drop-cons, set-split, split-at, drop-drop}
 use lib.Bits.{bitOr, or-shifted}
-use lib.Pow.{pow-add, high, low, shr-lt, shr-mod}
+use lib.Pow.{pow-add, pow-mono, high, low, shr-lt, shr-mod}
 use lib.Arith.{digits-lt}
-use Rattle.bits.specs.Laws.Shifts.{join-is, shl-is, within-is}
+use Rattle.bits.specs.Laws.Shifts.{push-is, join-is, shl-is, within-is}
 use Rattle.bits.specs.Bits.{val, bitsOfNat, bitsOf, pack, splice, bitsAt, getBits, putBits, patch, Leading, Bytes}
 use Rattle.bits.specs.Laws.Values.{val-append, val-lt, length-bitsOfNat, val-bitsOfNat, bitsOfNat-val, bitsOfNat-add}
 use Rattle.bits.specs.Laws.Bytes.{bitsOf-cons, length-bitsOf, bitsOf-append, drop-bitsOf, bitsOf-inj, bytes-set}
@@ -66,6 +66,33 @@ getBits-double s i n k h =
 pub getBits-word : (s : List ℕ) (i o n m : ℕ) → o + (n + m) ≡ 64 → i + 8 ≤ length s
     → getBits s (8 * i) 64 / 2 ^ m % 2 ^ n ≡ getBits s (8 * i + o) n
 getBits-word s i o n m e h = ap (λ (k : ℕ). getBits s (8 * i) k / 2 ^ m % 2 ^ n) (sym e) ∙ getBits-part s (8 * i) o n m (omega arith)
+
+-- a byte more
+pub getBits-next : (s : List ℕ) (i x : ℕ) → x ≡ getBits s 0 (8 * i) → i < length s → i < 7 → getD s i 0 < 256
+    → bitOr ((x * 2 ^ 8) % 2 ^ 64) (getD s i 0) ≡ getBits s 0 (8 * (i + 1))
+getBits-next s i x e l m b =
+    push-is x 8 (getD s i 0) b (rw whole (lt-of-lt-of-le (getBits-lt s 0 (8 * (i + 1)) (omega arith)) (pow-mono {j = 64} (omega arith)))) ∙ whole
+  where
+    j : 8 * i + 8 ≡ 8 * (i + 1)
+    j = omega arith
+
+    whole : x * 2 ^ 8 + getD s i 0 ≡ getBits s 0 (8 * (i + 1))
+    whole =
+        rw (e, ← mod-eq-of-lt {n = getD s i 0} {m = 2 ^ 8} b)
+        (sym (rw (pow-zero, div-one, j) at (getBits-step s 0 (8 * i) i 0 8 0 (omega arith) (omega arith) l)))
+
+-- the number of all bytes, fewer than eight, moved up
+pub leading-all : (s : List ℕ) (p : ℕ) → length s < 8 → p < 8 * length s
+    → Leading s p ((getBits s 0 (8 * length s) * 2 ^ (64 - 8 * length s + p)) % 2 ^ 64)
+leading-all s p l h n j f =
+    rw (within-is (getBits s 0 (8 * length s)) (64 - 8 * length s + p) n (omega arith), mod-mod, low)
+    (rw (zero-add, all) at (getBits-part s 0 p n (8 * length s - p - n) (omega arith)))
+  where
+    low : 64 - (64 - 8 * length s + p) - n ≡ 8 * length s - p - n
+    low = omega arith
+
+    all : p + (n + (8 * length s - p - n)) ≡ 8 * length s
+    all = omega arith
 
 -- the word of the last eight bytes, moved up
 pub leading-word : (s : List ℕ) (i o : ℕ) → i + 8 ≡ length s → o ≤ 64 → Leading s (8 * i + o) ((getBits s (8 * i) 64 * 2 ^ o) % 2 ^ 64)

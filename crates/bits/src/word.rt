@@ -18,22 +18,6 @@ fn mask(k: usize) -> u64
     (1u64 << k) - 1
 }
 
-// The k bits of b above its m low bits.
-fn byte_field(b: u8, k: usize, m: usize) -> u64
-    requires { ⌜ k + m ≤ 8 ⌝ }
-    ensures { λ r. ⌜ r ≡ b / 2 ^ m % 2 ^ k ⌝ }
-{
-    ((b as u64) >> m) & mask(k)
-}
-
-// acc with the k bits x put behind it.
-fn push(acc: u64, k: usize, x: u64) -> u64
-    requires { ⌜ (k ≤ 8) × (x < 2 ^ k) × (acc * 2 ^ k + x < 2 ^ 64) ⌝ }
-    ensures { λ r. ⌜ r ≡ acc * 2 ^ k + x ⌝ }
-{
-    (acc << k) | x
-}
-
 // The byte b with the k low bits of v put above its m low bits.
 fn byte_replaced(b: u8, k: usize, m: usize, v: u64) -> u8
     requires { ⌜ k + m ≤ 8 ⌝ }
@@ -43,24 +27,6 @@ fn byte_replaced(b: u8, k: usize, m: usize, v: u64) -> u8
     let ones = mask(k);
     let old = wide & (ones << m);
     ((wide - old) + ((v & ones) << m)) as u8
-}
-
-// The n bits of s from pos on, as a number.
-fn get_by_bytes(s: &[u8], pos: usize, n: usize) -> u64
-    requires { ⌜ (pos + n ≤ 8 * length (now s)) × (n ≤ 64) × (pos ≤ 65536) ⌝ }
-    ensures { λ r. ⌜ r ≡ getBits (now (s .entry)) pos n ⌝ }
-{
-    let mut acc: u64 = 0;
-    let mut done: usize = 0;
-    while done < n {
-        let p = pos + done;
-        let room = 8 - p % 8;
-        let k = least(n - done, room);
-        let x = byte_field(s[p / 8], k, room - k);
-        acc = push(acc, k, x);
-        done += k;
-    }
-    acc
 }
 
 // One, two and four bytes from at on as a number, k bits up. Each byte is shifted once, so that the compiler makes one load of eight.
@@ -115,25 +81,39 @@ fn word_start(len: usize, pos: usize) -> usize
     least(pos / 8, len - 8)
 }
 
-// The n bits from bit o on of the eight bytes from at on.
-fn get_in_word(s: &[u8], at: usize, o: usize, n: usize) -> u64
-    requires { ⌜ (at + 8 ≤ length (now s)) × (o + n ≤ 64) × (0 < n) ⌝ }
-    ensures { λ r. ⌜ r ≡ getBits (now (s .entry)) (8 * at + o) n ⌝ }
+// All bytes of a slice that is shorter than a word, as a number.
+fn load_all(s: &[u8]) -> u64
+    requires { ⌜ length (now s) < 8 ⌝ }
+    ensures { λ r. ⌜ r ≡ getBits (now (s .entry)) 0 (8 * length (now (s .entry))) ⌝ }
 {
-    word_field(load8(s, at), o, n)
+    let mut all: u64 = 0;
+    let mut i: usize = 0;
+    while i < s.len() {
+        all = (all << 8) | wide(s[i]);
+        i += 1;
+    }
+    all
 }
 
-// The same where the bits end in the ninth byte.
-fn get_nine(s: &[u8], at: usize, o: usize, n: usize) -> u64
-    requires { ⌜ (at + 8 < length (now s)) × (64 < o + n) × (o < 8) × (n ≤ 64) ⌝ }
-    ensures { λ r. ⌜ r ≡ getBits (now (s .entry)) (8 * at + o) n ⌝ }
+// The bits from pos on, from a word's highest bit down: 64 of them, or those to the end of s.
+pub fn get_ahead(s: &[u8], pos: usize) -> u64
+    requires { ⌜ (pos < 8 * length (now s)) × (pos ≤ 65536) ⌝ }
+    ensures { λ r. ⌜ Leading (now (s .entry)) pos r ⌝ }
 {
-    let k = o + n - 64;
-    let high = get_in_word(s, at, o, 64 - o);
-    push(high, k, byte_field(s[at + 8], k, 8 - k))
+    let len = s.len();
+    if len < 8 {
+        return load_all(s) << (64 - 8 * len + pos);
+    }
+    let at = word_start(len, pos);
+    let o = pos - 8 * at;
+    let x = load8(s, at) << o;
+    if at + 8 < len {
+        return x | (wide(s[at + 8]) >> (8 - o));
+    }
+    x
 }
 
-// As get_by_bytes, by whole words where there are eight bytes.
+// The n bits of s from pos on, as a number.
 pub fn get_bits(s: &[u8], pos: usize, n: usize) -> u64
     requires { ⌜ (pos + n ≤ 8 * length (now s)) × (n ≤ 64) × (pos ≤ 65536) ⌝ }
     ensures { λ r. ⌜ r ≡ getBits (now (s .entry)) pos n ⌝ }
@@ -141,29 +121,7 @@ pub fn get_bits(s: &[u8], pos: usize, n: usize) -> u64
     if n == 0 {
         return 0;
     }
-    if s.len() < 8 {
-        return get_by_bytes(s, pos, n);
-    }
-    let at = word_start(s.len(), pos);
-    let o = pos - 8 * at;
-    if 64 < o + n {
-        return get_nine(s, at, o, n);
-    }
-    get_in_word(s, at, o, n)
-}
-
-// The bits from pos on, from a word's highest bit down: 64 of them, or those to the end of s.
-pub fn get_ahead(s: &[u8], pos: usize) -> u64
-    requires { ⌜ (8 ≤ length (now s)) × (pos < 8 * length (now s)) × (pos ≤ 65536) ⌝ }
-    ensures { λ r. ⌜ Leading (now (s .entry)) pos r ⌝ }
-{
-    let at = word_start(s.len(), pos);
-    let o = pos - 8 * at;
-    let x = load8(s, at) << o;
-    if at + 8 < s.len() {
-        return x | (wide(s[at + 8]) >> (8 - o));
-    }
-    x
+    get_ahead(s, pos) >> (64 - n)
 }
 
 // The n low bits of v put into s from pos on.

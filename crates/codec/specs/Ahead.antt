@@ -1,13 +1,13 @@
 -- The bits ahead of an offset, the first of them in a word: parts of a header are read from the word, and no byte is loaded twice.
-use Prim.Native.Nat.{ℕ, _+_, _-_, _*_, _/_, _%_, _^_, _≤_, _<_, min}
-use mathlib.Core.Path.{_≡_, refl, sym, ap, _∙_}
-use mathlib.Core.List.{List, [], _++_, append-assoc}
+use Prim.Native.Nat.{ℕ, _+_, _-_, _*_, _/_, _%_, _^_, _≤_, _<_}
+use mathlib.Core.Path.{_≡_, sym, ap, _∙_}
+use mathlib.Core.List.{List, _++_, append-assoc}
 use mathlib.Core.Bool.{Bool}
 use native.Mathlib.Omega.{arith}
 use native.Mathlib.Nat.{add-assoc, add-zero, mod-lt, mod-mod}
 use lib.ListN.{length, drop, length-drop}
 use lib.Seq.{drop-drop, drop-at}
-use lib.Pow.{pow-pos, shr-lt, shr-mod, shr-shr, shl-shr, mod-mod-pow}
+use lib.Pow.{pow-pos, shr-lt, mod-mod-pow}
 use Rattle.bits.specs.Bits.{bitsOfNat, Leading}
 use Rattle.bits.specs.Laws.Values.{length-bitsOfNat, bitsOfNat-add, bitsOfNat-mod, bits-zero}
 use Rattle.codec.specs.Reader.{Out, got, refused, fieldAt, field-short, Reader, run, inside}
@@ -58,19 +58,6 @@ pub word-tail : {h : List Bool} {o v : ℕ} (m n : ℕ) → Word h o (m + n) v �
 word-tail {v = v} m n w =
     record { bits = rw (← bitsOfNat-mod n v (v % 2 ^ n) (sym (mod-mod v (2 ^ n)))) (word-front m n w .1); small = mod-lt v (pow-pos n) }
 
--- a word of m bits moved up to the highest bit
-pub held-load : {h : List Bool} {o m v : ℕ} (left : ℕ) → left ≡ length (drop o h) → m ≡ min left 64 → Word h o m v
-    → Held h (record { at = o; left = left; word = v * 2 ^ (64 - m); used = 0 })
-held-load {h} {o} {m} {v} left e d w = record { bits = e; part = go }
-  where
-    go : (n : ℕ) → n ≤ left → 0 + n ≤ 64 → Word h o n (v * 2 ^ (64 - m) / 2 ^ (64 - 0 - n) % 2 ^ n)
-    go n i j =
-        let k = m - n in
-        let s : m ≡ n + k = omega (arith, d) in
-        let t : 64 - 0 - n ≡ 64 - m + k = omega (arith, d) in
-        let w' : Word h o (n + k) v = rw s at w in
-        rw (t, ← shr-shr (v * 2 ^ (64 - m)) (64 - m) k, shl-shr v (64 - m), shr-mod {n = v} n k (w' .small)) (word-head n k w')
-
 -- a word of the bytes' bits from the offset on, whatever follows those of the header in it
 pub held-ahead : (s : List ℕ) (c : Cursor) (o left : ℕ) {x : ℕ} → Good (length s) c → Left s c o left → 1 ≤ left → Leading s (c .pos + o) x
     → Held (within s c) (record { at = o; left = left; word = x; used = 0 })
@@ -116,4 +103,7 @@ starved-field {h} {a} w e l = field-short w (drop (a .at) h) (a .at) (omega (ari
 
 -- nothing is left
 pub held-none : {h : List Bool} (o left : ℕ) → left ≡ length (drop o h) → left < 1 → Held h (record { at = o; left = left; word = 0; used = 0 })
-held-none {h} o left e l = held-load {m = 0} {v = 0} left e (omega arith) (record { bits = rw (bits-zero, add-zero); small = omega arith })
+held-none {h} o left e l = record { bits = e; part = go }
+  where
+    go : (n : ℕ) → n ≤ left → 0 + n ≤ 64 → Word h o n (0 / 2 ^ (64 - 0 - n) % 2 ^ n)
+    go n i j = let z : n ≡ 0 = omega arith in rw z (record { bits = rw (bits-zero, add-zero); small = omega arith })

@@ -57,14 +57,6 @@ pub fn load(s: &[u8], c: Cursor, o: usize) -> Ahead
             used: 0,
         };
     }
-    if s.len() < 8 {
-        return Ahead {
-            at: o,
-            left,
-            word: word(s, c, o, left) << (64 - left),
-            used: 0,
-        };
-    }
     Ahead {
         at: o,
         left,

@@ -4,12 +4,15 @@ use crate::bench_block;
 use crate::original;
 use crate::ours::{self, Kind, Out, Window};
 use std::hint::black_box;
+use std::process::Command;
 use std::time::Instant;
 use tetra_core::BitBuffer;
 
-/// A run is short, so that both sides of a ratio meet the same state of the machine.
+/// A run is short, so that both sides of a ratio meet the same state of the machine. Where a process has its stack and its buffers decides
+/// whether loads wait for stores that only look alike, so the runs are those of several processes.
 const CALLS: usize = 2_000;
-const RUNS: usize = 501;
+const RUNS: usize = 61;
+const PROCESSES: usize = 9;
 
 /// A loop of so many calls.
 pub type Calls = Box<dyn FnMut(usize)>;
@@ -30,19 +33,36 @@ fn nanoseconds(f: &mut Calls) -> f64 {
     began.elapsed().as_nanos() as f64 / CALLS as f64
 }
 
+/// The runs of one process: a line for each, with the operation's number and the nanoseconds of either side.
+pub fn runs() -> bool {
+    for (at, o) in operations().iter_mut().enumerate() {
+        for _ in 0..RUNS {
+            println!("{at} {} {}", nanoseconds(&mut o.theirs), nanoseconds(&mut o.ours));
+        }
+    }
+    true
+}
+
+/// The runs of a process of this program, put to those of the operations.
+fn add_runs(all: &mut [Vec<[f64; 3]>]) -> Option<()> {
+    let done = Command::new(std::env::current_exe().ok()?).arg("runs").output().ok()?;
+    for line in String::from_utf8(done.stdout).ok()?.lines() {
+        let mut words = line.split(' ');
+        let runs = all.get_mut(words.next()?.parse::<usize>().ok()?)?;
+        let (t, u): (f64, f64) = (words.next()?.parse().ok()?, words.next()?.parse().ok()?);
+        runs.push([t, u, t / u]);
+    }
+    done.status.success().then_some(())
+}
+
 /// The ratio is the middle one of the runs, with those that a tenth of them lie below and above; the times are those that a twentieth lies below.
-fn measure(o: &mut Operation) {
-    let mut runs: Vec<[f64; 3]> = (0..RUNS)
-        .map(|_| {
-            let (t, u) = (nanoseconds(&mut o.theirs), nanoseconds(&mut o.ours));
-            [t, u, t / u]
-        })
-        .collect();
+fn print(name: &str, runs: &mut [[f64; 3]]) {
+    let last = runs.len() - 1;
     let mut at = |column: usize, part: usize| {
         runs.sort_by(|a, b| a[column].total_cmp(&b[column]));
-        runs[part * (RUNS - 1) / 20][column]
+        runs[part * last / 20][column]
     };
-    println!("{:36} {:8.1} {:8.1} {:6.2}  {:.2} to {:.2}", o.name, at(0, 1), at(1, 1), at(2, 10), at(2, 2), at(2, 18));
+    println!("{name:36} {:8.1} {:8.1} {:6.2}  {:.2} to {:.2}", at(0, 1), at(1, 1), at(2, 10), at(2, 2), at(2, 18));
 }
 
 const BYTES: usize = 34;
@@ -183,8 +203,11 @@ fn operations() -> Vec<Operation> {
 
 pub fn run() -> bool {
     println!("{:36} {:>8} {:>8} {:>6}  {}", "nanoseconds a call", "original", "port", "ratio", "spread");
-    operations().iter_mut().for_each(measure);
-    true
+    let names: Vec<String> = operations().into_iter().map(|o| o.name).collect();
+    let mut all = vec![Vec::new(); names.len()];
+    let done = (0..PROCESSES).all(|_| add_runs(&mut all).is_some());
+    names.iter().zip(&mut all).for_each(|(name, runs)| print(name, runs));
+    done
 }
 
 /// The names of all operations; or one side of the operation of a number, so many times, for a count of instructions.

@@ -71,13 +71,12 @@ impl Block {
     }
 }
 
-/// All steps to the end. Gives how many PDUs there are.
-fn walk(s: &[u8], n: usize) -> usize {
-    let mut out: sys::StepOut = [0; 33];
+/// All steps to the end, each into the same words. Gives how many PDUs there are.
+fn walk(s: &[u8], n: usize, out: &mut sys::StepOut) -> usize {
     let (mut bit, mut count) = (0, 0);
     loop {
         unsafe { sys::tetra_block_step(s.as_ptr(), s.len(), n, bit, out.as_mut_ptr(), 33) };
-        black_box(&out);
+        black_box(&mut *out);
         count += usize::from(out[0] != 0);
         if out[2] == 0 {
             return count;
@@ -146,11 +145,12 @@ fn walked(v: Block) -> Operation {
     assert_eq!(v.write(&mut s), 0);
     let mut b = BitBuffer::from_bytes(&s);
     let n = v.bits;
-    let count = walk(&s, n);
+    let mut out: sys::StepOut = [0; 33];
+    let count = walk(&s, n, &mut out);
     Operation {
         name: v.name("walk"),
         theirs: calls(move || assert_eq!(black_box(walk_original(black_box(&mut b), n)), count)),
-        ours: calls(move || assert_eq!(black_box(walk(black_box(&s), n)), count)),
+        ours: calls(move || assert_eq!(black_box(walk(black_box(&s), n, &mut out)), count)),
     }
 }
 

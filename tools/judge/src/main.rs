@@ -29,9 +29,10 @@ fn main() {
     let done = match words.first().map(String::as_str) {
         Some("compare") => compare::run(number(&words, 1, 10_000_000), number(&words, 2, 1)),
         Some("bench") => bench::run(),
+        Some("runs") => bench::runs(),
         Some("alone") => bench::alone(words.get(1).map(|_| number(&words, 1, 0) as usize), words.get(2).is_some_and(|v| v == "port"), number(&words, 3, 1) as usize),
         _ => {
-            eprintln!("judge compare [CASES [SEED]] | bench | alone [OPERATION original|port CALLS]");
+            eprintln!("judge compare [CASES [SEED]] | bench | runs | alone [OPERATION original|port CALLS]");
             false
         }
     };

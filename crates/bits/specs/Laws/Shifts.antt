@@ -1,7 +1,7 @@
 -- What the code's shifts and masks are in plain arithmetic. `a << k` is `a * 2 ^ k % 2 ^ 64`, `a >> k` is `a / 2 ^ k`.
 use Prim.Native.Nat.{ℕ, _+_, _-_, _*_, _/_, _%_, _^_, _≤_, _<_}
 use mathlib.Core.Path.{_≡_, sym, ap, _∙_}
-use native.Mathlib.Nat.{add-comm, add-zero, add-mul, mul-assoc, one-mul, mod-lt, mod-mod, mod-eq-of-lt, lt-of-le-of-lt, div-mul-le-self}
+use native.Mathlib.Nat.{add-comm, add-zero, add-mul, mul-assoc, one-mul, mod-lt, mod-mod, mod-eq-of-lt}
 use native.Mathlib.Omega.{arith}
 use lib.Bits.{bitAnd, bitOr, and-mask, and-high, or-shifted}
 use lib.Pow.{low, high-ones, ones-lt, shl-lt, pow-pos, pow-lt, pow-add, shl-exact, field, shr-shr, shl-shr, split, mod-pow-add, shr-lt}

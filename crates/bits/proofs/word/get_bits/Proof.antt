@@ -1,7 +1,7 @@
-use native.Mathlib.Nat.{add-sub-of-le}
+use Prim.Native.Nat.{_+_, _-_, _^_, _<_}
+use mathlib.Core.Path.{_≡_, sym, _∙_}
 use native.Mathlib.Omega.{arith}
-use mathlib.Core.Path.{sym}
-use Prim.Native.Nat.{_*_, _≤_}
+use lib.Pow.{shr-mod}
 use Rattle.bits.specs.Laws.Reads.{getBits-zero}
 use borrow.Author.Needs.{needs}
 use Rattle.bits.proofs.word.get_bits.Statement.{statement}
@@ -10,28 +10,12 @@ use Rattle.bits.proofs.word.get_bits.Tie as tie
 returns : tie.Need-returns
 returns c = rw (c .if1 .taken) (sym (getBits-zero _ _))
 
--- the word starts no later than the bits
-inside : (c : tie.After-word-start) → 8 * c .word-start .result ≤ c .before .before .before .before .args .pos
-inside c = omega arith
-
-returns-3 : tie.Need-returns-3
-returns-3 c = rw (add-sub-of-le (inside (c .before .before))) at (c .get-nine .ensures)
-
-returns-4 : tie.Need-returns-4
-returns-4 c = rw (add-sub-of-le (inside (c .before .before))) at (c .get-in-word .ensures)
+returns-2 : tie.Need-returns-2
+returns-2 c =
+    let n = c .before .before .before .args .n in
+    let e : n + (64 - n) ≡ 64 = omega arith in
+    let small : c .get-ahead .result < 2 ^ (n + (64 - n)) = rw e (search needs) in
+    sym (shr-mod n (64 - n) small) ∙ c .get-ahead .ensures n (omega arith) (omega arith)
 
 pub get-bits-spec : {M : Type 1} → statement M
-get-bits-spec =
-    tie.close
-    (tie.spec
-    returns
-    (λ c κs. search needs)
-    (λ c. search needs)
-    (λ c κs. search needs)
-    (λ c. search needs)
-    (λ c. search needs)
-    (λ c. search needs)
-    (λ c κs. search needs)
-    returns-3
-    (λ c κs. search needs)
-    returns-4)
+get-bits-spec = tie.close (tie.spec returns (λ c κs. search needs) (λ c. search needs) (λ c. search needs) returns-2)
