@@ -20,6 +20,13 @@ use Rattle.mac_resource.specs.declared.elements.AllocationPart.{Allocati
 use Rattle.mac_resource.specs.declared.elements.ElementsPart.{ElementsPart}
 use Rattle.mac_resource.specs.Address.{wide}
 
+abbrev pub noElements : Elements
+noElements = record {
+  «power_control_element» = PowerControl.Without;
+  «slot_granting_element» = SlotGranting.Without;
+  «chan_alloc_element» = ChannelAllocation.Without;
+}
+
 -- ---- what is read
 
 -- a flag, and the element if it is set

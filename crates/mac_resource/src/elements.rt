@@ -20,7 +20,7 @@ ghost use Rattle.codec.specs.Header.{within, Reads};
 ghost use Rattle.codec.specs.Ahead.{Held, NextBits, Ready, ReadsNext};
 ghost use Rattle.codec.specs.Row.{rowBits};
 ghost use Rattle.mac_resource.specs.Piece.{pieceBits, Holds};
-ghost use Rattle.mac_resource.specs.Elements.{readPower, powerOut, readGranting, grantingOut, readAllocation, allocationOut, readElements, elementsOut, powerRefusal, grantingRefusal, allocationRefusal, elementsRefusal, powerLen, grantingLen, allocationLen, elementsLen, allocationLenRefusal, powerRow, grantingRow, flagRow, flagsBits, flagsLen, elementsBits};
+ghost use Rattle.mac_resource.specs.Elements.{noElements, readPower, powerOut, readGranting, grantingOut, readAllocation, allocationOut, readElements, elementsOut, powerRefusal, grantingRefusal, allocationRefusal, elementsRefusal, powerLen, grantingLen, allocationLen, elementsLen, allocationLenRefusal, powerRow, grantingRow, flagRow, flagsBits, flagsLen, elementsBits};
 
 pub enum PowerControl {
     Without,
@@ -258,6 +258,25 @@ pub(crate) fn read_elements(s: &[u8], c: Cursor, a: Ahead) -> ElementsPart
     read_each(s, c, o)
 }
 
+// Whether there is no element. Most headers have none: asked first, it saves them what the elements take.
+fn is_bare(e: Elements) -> bool
+    ensures { λ r. ⌜ (r ≡ true → e ≡ noElements) ⌝ }
+{
+    let power = e.power_control_element;
+    let granting = e.slot_granting_element;
+    let allocation = e.chan_alloc_element;
+    match power {
+        PowerControl::Level(_) => false,
+        PowerControl::Without => match granting {
+            SlotGranting::Element(_) => false,
+            SlotGranting::Without => match allocation {
+                ChannelAllocation::Element(_) => false,
+                ChannelAllocation::Without => true,
+            },
+        },
+    }
+}
+
 // Why an element is not written, or 0.
 fn power_refusal(p: PowerControl) -> u8
     ensures { λ r. ⌜ r ≡ powerRefusal p ⌝ }
@@ -294,6 +313,9 @@ fn allocation_refusal(a: ChannelAllocation) -> u8
 pub(crate) fn elements_refusal(e: Elements) -> u8
     ensures { λ r. ⌜ r ≡ elementsRefusal e ⌝ }
 {
+    if is_bare(e) {
+        return 0;
+    }
     let power = e.power_control_element;
     let granting = e.slot_granting_element;
     let allocation = e.chan_alloc_element;
@@ -339,6 +361,9 @@ fn allocation_len(a: ChannelAllocation) -> usize
 pub(crate) fn elements_len(e: Elements) -> usize
     ensures { λ r. ⌜ (r ≡ elementsLen e) × (r ≤ 42) ⌝ }
 {
+    if is_bare(e) {
+        return 3;
+    }
     let power = e.power_control_element;
     let granting = e.slot_granting_element;
     let allocation = e.chan_alloc_element;
@@ -396,6 +421,9 @@ fn flags_piece(e: Elements) -> Piece
     requires { ⌜ elementsRefusal e ≡ 0 ⌝ }
     ensures { λ r. ⌜ Holds (flagsBits e) (flagsLen e) r ⌝ }
 {
+    if is_bare(e) {
+        return Piece { value: 0, bits: 3 };
+    }
     let power = e.power_control_element;
     let granting = e.slot_granting_element;
     let allocation = e.chan_alloc_element;
