@@ -44,9 +44,9 @@ fn refused(refusal: Refusal) -> FixedPart
     }
 }
 
-// The first 16 bits of a header, which are ahead. The type is judged before any later field is missed.
-pub(crate) fn read_fixed(a: Ahead) -> FixedPart
-    requires { ⌜ Ready a 16 ⌝ }
+// Fewer than 16 bits are ahead. The type is judged before any later field is missed.
+fn cut_off(a: Ahead) -> FixedPart
+    requires { ⌜ Ready a 16 × (a .left < 16) ⌝ }
     ensures { λ r. ⌜ ReadsNext (fixedOut (a .at)) readFixed a r ⌝ }
 {
     let left = a.left;
@@ -57,15 +57,25 @@ pub(crate) fn read_fixed(a: Ahead) -> FixedPart
             bit: o,
         });
     }
+    if codec::take(a, 2) != 0 {
+        return refused(Refusal {
+            number: refusal::WRONG_PDU_TYPE,
+            bit: o,
+        });
+    }
+    let widths = [1u8, 1, 2, 1, 6, 3];
+    refused(codec::short(&widths, left - 2, o + 2))
+}
+
+// The first 16 bits of a header, which are ahead.
+pub(crate) fn read_fixed(a: Ahead) -> FixedPart
+    requires { ⌜ Ready a 16 ⌝ }
+    ensures { λ r. ⌜ ReadsNext (fixedOut (a .at)) readFixed a r ⌝ }
+{
+    let left = a.left;
+    let o = a.at;
     if left < 16 {
-        if codec::take(a, 2) != 0 {
-            return refused(Refusal {
-                number: refusal::WRONG_PDU_TYPE,
-                bit: o,
-            });
-        }
-        let widths = [1u8, 1, 2, 1, 6, 3];
-        return refused(codec::short(&widths, left - 2, o + 2));
+        return cut_off(a);
     }
     let x = codec::take(a, 16);
     if (x >> 14) % 4 != 0 {
