@@ -177,6 +177,7 @@ fn read_allocation(a: Ahead) -> AllocationPart
     }
 }
 
+// What else a refused part holds is not looked at.
 fn refused(refusal: Refusal) -> ElementsPart
     ensures { λ r. ⌜ r .refusal ≡ refusal ⌝ }
 {

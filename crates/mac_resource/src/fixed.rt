@@ -21,13 +21,13 @@ pub struct Fixed {
     pub addr_type: MacResourceAddrType,
 }
 
-// The first 16 bits as a part of a header: why they are not read, or number 0. A struct, as every part of a MAC-RESOURCE: the cases of an
-// enum lie on each other in memory, and what has to be kept apart there does not stay in registers.
+// The first 16 bits as a part of a header: why they are not read, or number 0.
 pub struct FixedPart {
     pub refusal: Refusal,
     pub fixed: Fixed,
 }
 
+// What else a refused part holds is not looked at.
 fn refused(refusal: Refusal) -> FixedPart
     ensures { λ r. ⌜ r .refusal ≡ refusal ⌝ }
 {

@@ -171,6 +171,7 @@ fn header_of(f: Fixed, addr: TetraAddress, e: Elements) -> MacResource
     }
 }
 
+// What else a refused part holds is not looked at.
 fn refused(refusal: Refusal) -> MacResourcePart
     ensures { λ r. ⌜ r .refusal ≡ refusal ⌝ }
 {

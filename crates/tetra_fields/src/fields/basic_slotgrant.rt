@@ -36,13 +36,13 @@ pub struct SlotgrantRead {
     pub answer: SlotgrantAnswer,
 }
 
-// A slot grant as a part of a header: why it is not read, or number 0. A struct, as every part of a MAC-RESOURCE: the cases of an enum lie on
-// each other in memory, and what has to be kept apart there does not stay in registers.
+// A slot grant as a part of a header: why it is not read, or number 0.
 pub struct SlotgrantPart {
     pub refusal: Refusal,
     pub grant: BasicSlotgrant,
 }
 
+// What else a refused part holds is not looked at.
 fn refused(refusal: Refusal) -> SlotgrantPart
     ensures { λ r. ⌜ r .refusal ≡ refusal ⌝ }
 {

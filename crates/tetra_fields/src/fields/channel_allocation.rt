@@ -117,6 +117,7 @@ pub fn frame18_into_raw(p: Frame18Pattern) -> u64
     }
 }
 
+// What else refused patterns hold is not looked at.
 fn patterns_refused(refusal: Refusal) -> MonPatternsPart
     ensures { λ r. ⌜ r .refusal ≡ refusal ⌝ }
 {
@@ -195,6 +196,7 @@ fn element_of(x: u64, p: MonPatterns) -> ChanAllocElement
     }
 }
 
+// What else a refused part holds is not looked at.
 fn refused(refusal: Refusal) -> ChannelAllocationPart
     ensures { λ r. ⌜ r .refusal ≡ refusal ⌝ }
 {
