@@ -1,5 +1,4 @@
 -- The laws that other crates cite.
-pub mod Below
 pub mod AccessField
 pub mod Usage
 pub mod AccessAssign

@@ -31,6 +31,8 @@
 -- Lend     lent            bits put into a lent part of a block are bits put into the block
 -- Cases    last-case       the last arm of a match from number to case
 --          flag-back       a flag that was written is read back
+-- Below    below           a test that computes true for each number below a bound holds for all of them
+--          numbers         the number of the case of a number is that number
 pub mod Reader
 pub mod Feed
 pub mod Header
@@ -40,3 +42,4 @@ pub mod Write
 pub mod Back
 pub mod Lend
 pub mod Cases
+pub mod Below

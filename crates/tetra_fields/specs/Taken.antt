@@ -1,17 +1,16 @@
 -- What is read, written again, gives the bits that were read: how a reader's value stands to the bits that it took.
-use Prim.Native.Nat.{ℕ, zero, suc, _+_, _-_, _^_, _<_}
+use Prim.Native.Nat.{ℕ, _+_, _-_, _^_, _<_}
 use mathlib.Core.Path.{_≡_, refl}
 use mathlib.Core.List.{List, [], _++_, append-assoc, append-nil}
-use mathlib.Core.Bool.{Bool, true, false, _&&_}
+use mathlib.Core.Bool.{Bool, true, false}
 use native.Mathlib.Omega.{arith}
 use native.Mathlib.Nat.{sub-self}
 use lib.ListN.{length, take, drop}
 use lib.Seq.{length-take-le, take-add}
-use lib.Dec.{leb, eqb}
-use borrow.Author.Tests.{leb-true, leb-false, eqb-true, eqb-false}
+use lib.Dec.{leb}
+use borrow.Author.Tests.{leb-true, leb-false}
 use Rattle.bits.specs.Bits.{val, bitsOfNat}
 use Rattle.bits.specs.Laws.Values.{val-lt, bitsOfNat-val}
-use Rattle.tetra_core.specs.Laws.Windows.{and-both}
 use Rattle.codec.specs.Reader.{got, field-there, field-short, Reader, done, refuse, field, here, choose, run, _>>=_, inside}
 
 -- P holds of each value that a reader gives and of the bits it is made of, where the bits so far are ys
@@ -60,20 +59,3 @@ always-after Q P (choose b p q) f ys zs h g = (λ e. always-after Q P p f ys zs 
 pub always-bind : {A B : Type 0} (Q : A → List Bool → Type 0) (P : B → List Bool → Type 0) (p : Reader A) (f : A → Reader B) (ys : List Bool) → Always Q [] p
     → ((a : A) (xs : List Bool) → Q a xs → Always P (ys ++ xs) (f a)) → Always P ys (p >>= f)
 always-bind Q P p f ys h g = rw append-nil at (always-after Q P p f ys [] h g)
-
--- ---- the numbers below n, one by one: the number of the case of a number is that number
-
-abbrev pub allBelow : ℕ → (ℕ → Bool) → Bool
-allBelow zero t = true
-allBelow (suc n) t = t n && allBelow n t
-
-pub below : (n : ℕ) (t : ℕ → Bool) → allBelow n t ≡ true → (v : ℕ) → v < n → t v ≡ true
-below zero t e v h = absurd (omega arith)
-below (suc n) t e v h = go (eqb v n) refl (and-both (t n) (allBelow n t) e) (below n t)
-  where
-    go : (b : Bool) → eqb v n ≡ b → (t n ≡ true) × (allBelow n t ≡ true) → (allBelow n t ≡ true → (v : ℕ) → v < n → t v ≡ true) → t v ≡ true
-    go true q f g = rw (eqb-true v n q) (f .0)
-    go false q f g = g (f .1) v (omega (arith, eqb-false v n q))
-
-pub numbers : {A : Type 0} (number : A → ℕ) (case : ℕ → A) (n : ℕ) → allBelow n (λ v. eqb (number (case v)) v) ≡ true → (v : ℕ) → v < n → number (case v) ≡ v
-numbers number case n e v h = eqb-true _ _ (below n (λ v. eqb (number (case v)) v) e v h)

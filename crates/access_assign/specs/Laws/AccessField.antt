@@ -3,11 +3,10 @@ use Prim.Native.Nat.{ℕ, _<_}
 use mathlib.Core.Path.{_≡_, refl}
 use native.Mathlib.Omega.{arith}
 use native.Mathlib.Nat.{mod-eq-of-lt}
-use lib.Dec.{eqb, lit<}
+use lib.Dec.{lit<}
 use lib.Pow.{high, low}
-use borrow.Author.Tests.{eqb-true}
+use Rattle.codec.specs.Below.{numbers}
 use Rattle.access_assign.specs.AccessField.{accessCodeNumber, accessCodeOf, baseFrameLengthNumber, baseFrameLengthOf, accessFieldNumber, accessFieldOf}
-use Rattle.access_assign.specs.Laws.Below.{below}
 use Rattle.access_assign.specs.declared.enums.access_code.AccessCode.{AccessCode}
 use Rattle.access_assign.specs.declared.enums.access_code.AccessCode.the-variants.{AccessCodeA, AccessCodeB, AccessCodeC, AccessCodeD}
 use Rattle.access_assign.specs.declared.structs.base_frame_length.BaseFrameLength.{BaseFrameLength}
@@ -49,4 +48,4 @@ access-field-back f =
 
 pub access-field-again : (v : ℕ) → v < 64 → accessFieldNumber (accessFieldOf v) ≡ v
 unfolding accessFieldOf accessCodeOf baseFrameLengthOf
-access-field-again v h = eqb-true _ _ (below 64 (λ x. eqb (accessFieldNumber (accessFieldOf x)) x) refl v h)
+access-field-again = numbers accessFieldNumber accessFieldOf 64 refl

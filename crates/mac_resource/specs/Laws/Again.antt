@@ -13,7 +13,8 @@ use Rattle.tetra_core.specs.declared.address.TetraAddress.{TetraAddress}
 use Rattle.codec.specs.Reader.{got, Reader, done, run}
 use Rattle.codec.specs.Row.{rowBits}
 use Rattle.codec.specs.Cases.{flag}
-use Rattle.tetra_fields.specs.Taken.{Always, took, always-bind, numbers}
+use Rattle.codec.specs.Below.{numbers}
+use Rattle.tetra_fields.specs.Taken.{Always, took, always-bind}
 use Rattle.tetra_fields.specs.BasicSlotgrant.{readSlotgrant}
 use Rattle.tetra_fields.specs.ChannelAllocation.{readChannelAllocation}
 use Rattle.tetra_fields.specs.Laws.BasicSlotgrant.{SlotgrantAgain, slotgrant-always}

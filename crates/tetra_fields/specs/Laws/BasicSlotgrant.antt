@@ -15,7 +15,8 @@ use Rattle.codec.specs.Reader.{got, run}
 use Rattle.codec.specs.Row.{rowBits, RowFits, length-row}
 use Rattle.codec.specs.Write.{refusalAt, free}
 use Rattle.codec.specs.Back.{gives, written-back}
-use Rattle.tetra_fields.specs.Taken.{Always, took, below, numbers}
+use Rattle.codec.specs.Below.{below, numbers}
+use Rattle.tetra_fields.specs.Taken.{Always, took}
 use Rattle.tetra_fields.specs.BasicSlotgrant.{capAllocNumber, capAllocOf, delayNumber, delayOf, delayRefusal, readSlotgrant, slotgrantAt, slotgrantRefusal, slotgrantRow, slotgrantWritten}
 use Rattle.tetra_fields.specs.declared.enums.basic_slotgrant_cap_alloc.BasicSlotgrantCapAlloc.{BasicSlotgrantCapAlloc}
 use Rattle.tetra_fields.specs.declared.enums.basic_slotgrant_cap_alloc.BasicSlotgrantCapAlloc.the-variants.{FirstSubslotGranted, Grant1Slot, Grant2Slots, Grant3Slots, Grant4Slots, Grant5Slots, Grant6Slots, Grant8Slots, Grant10Slots, Grant13Slots, Grant17Slots, Grant24Slots, Grant34Slots, Grant51Slots, Grant68Slots, SecondSubslotGranted}

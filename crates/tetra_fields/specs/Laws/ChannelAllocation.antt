@@ -20,7 +20,8 @@ use Rattle.codec.specs.Row.{cell, rowBits, RowFits, length-row}
 use Rattle.codec.specs.Write.{refusalAt, free}
 use Rattle.codec.specs.Back.{give, gives, written-back}
 use Rattle.codec.specs.Cases.{flag, flag-back}
-use Rattle.tetra_fields.specs.Taken.{Always, took, numbers}
+use Rattle.codec.specs.Below.{numbers}
+use Rattle.tetra_fields.specs.Taken.{Always, took}
 use Rattle.tetra_fields.specs.ChannelAllocation.{allocTypeNumber, allocTypeOf, ulDlNumber, ulDlOf, ulDlRefusal, timeslotsNumber, timeslotsOf, frame18Number, readMonPatterns, readChannelAllocation, channelAllocationAt, patternRefusal, frame18Refusal, lenRefusal, channelAllocationRefusal, channelAllocationRow, frame18Row, channelAllocationBits, channelAllocationLen, lenOr, computeLen, channelAllocationWritten, normalChannelAllocation}
 use Rattle.tetra_fields.specs.declared.enums.alloc_type.ChanAllocType.{ChanAllocType}
 use Rattle.tetra_fields.specs.declared.enums.alloc_type.ChanAllocType.the-variants.{Replace, Additional, QuitAndGo, ReplaceWithCarrierSignalling}
