@@ -28,11 +28,15 @@
 --          write-done      the last return of one
 -- Back     gives           a reader of bits that begin with a row computes past every cell of the row
 --          written-back    what a call wrote at a cursor is read there: value and cursor
+-- Again    spelt           what holds of a reader's value and bits whatever its fields hold (`Every`) holds of what is read
+--          every-bind      `Every` of a reader with a part of its own
+--          written-again   what a call read at a cursor and writes there again changes no byte
 -- Lend     lent            bits put into a lent part of a block are bits put into the block
--- Cases    last-case       the last arm of a match from number to case
---          flag-back       a flag that was written is read back
 -- Below    below           a test that computes true for each number below a bound holds for all of them
 --          numbers         the number of the case of a number is that number
+-- Cases    last-case       the last arm of a match from number to case
+--          flag-back       a flag that was written is read back
+--          flag-again      the bit of a flag that was read
 pub mod Reader
 pub mod Feed
 pub mod Header
@@ -40,6 +44,7 @@ pub mod Ahead
 pub mod Row
 pub mod Write
 pub mod Back
+pub mod Again
 pub mod Lend
-pub mod Cases
 pub mod Below
+pub mod Cases

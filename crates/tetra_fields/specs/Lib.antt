@@ -1,6 +1,5 @@
 pub mod BasicSlotgrant
 pub mod ChannelAllocation
-pub mod Taken
 pub mod ReservationRequirement
 pub mod UplinkAddress
 pub mod UplinkHead

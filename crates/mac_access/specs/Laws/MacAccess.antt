@@ -1,10 +1,10 @@
 -- A MAC-ACCESS that is written has its length and is read back, and one that was read is written again.
 use Prim.Native.Nat.{ℕ, _+_}
-use mathlib.Core.Path.{_≡_, refl, sym, ap, _∙_}
+use mathlib.Core.Path.{_≡_, refl, ap, _∙_}
 use mathlib.Core.List.{List, _++_}
 use mathlib.Core.Bool.{Bool}
 use native.Mathlib.Omega.{arith}
-use native.Mathlib.Nat.{zero-add}
+use native.Mathlib.Nat.{zero-add, sub-zero}
 use lib.ListN.{length, take}
 use lib.Dec.{lit<}
 use borrow.Author.Tests.{leb-true, le-leb, eqb-true}
@@ -19,9 +19,10 @@ use Rattle.codec.specs.Header.{within}
 use Rattle.codec.specs.Row.{size, rowBits, RowFits}
 use Rattle.codec.specs.Write.{refusalAt, free}
 use Rattle.codec.specs.Back.{gives, written-back}
-use Rattle.codec.specs.Cases.{flag-back}
+use Rattle.codec.specs.Again.{Every, spelt, read-at, written-again}
+use Rattle.codec.specs.Cases.{flag-back, flag-again, one-again}
 use Rattle.tetra_fields.specs.UplinkAddress.{encryptionRefusal}
-use Rattle.tetra_fields.specs.Laws.Again.{Every, spelt, spelt-bits, flag-again, one-again, read-at, written-again}
+use Rattle.tetra_fields.specs.Laws.Rows.{rows-append}
 use Rattle.tetra_fields.specs.Laws.ReservationRequirement.{reservation-back, reservation-again}
 use Rattle.tetra_fields.specs.Laws.UplinkHead.{allowed, allowed-test, uplink-length, uplink-back, uplink-every}
 use Rattle.mac_access.specs.MacAccess.{headOf, macAccessOf, readRequest, readChosen, readOption, readMacAccess, macAccessAt, optionRefusal, macAccessRefusal, optionRow, macAccessRow, macAccessSize, macAccessWrite, macAccessWritten, normal}
@@ -67,13 +68,13 @@ mac-access-written-back s c h e =
 
 -- ---- what was read is written again
 
-option-every : Every readOption (λ a r. (r ≡ optionRow a) × (optionRefusal a ≡ 0))
-unfolding readOption readChosen readRequest
+option-every : Every readOption (λ a xs. (optionRefusal a ≡ 0) × (rowBits (optionRow a) ≡ xs))
+unfolding readOption readChosen readRequest rowBits
 option-every option lo = (
-  λ e. (rw (eqb-true option 0 e), refl),
+  λ e. (refl, rw (eqb-true option 0 e)),
   λ e selector ls. (
-    λ f length ll. (rw (one-again option lo e, eqb-true selector 0 f), rw (le-leb length 31 (omega arith))),
-    λ f frag lf req lr. (rw (one-again option lo e, one-again selector ls f, flag-again frag lf, reservation-again req lr), refl),
+    λ f length ll. (rw (le-leb length 31 (omega arith)), rw (one-again option lo e, eqb-true selector 0 f)),
+    λ f frag lf req lr. (refl, rw (one-again option lo e, one-again selector ls f, flag-again frag lf, reservation-again req lr)),
   ),
 )
 
@@ -82,10 +83,9 @@ pub mac-access-again : (bs : List Bool) {h : MacAccess} {r : List Bool} {n : ℕ
     → (encryptionRefusal (h .encrypted) (h .addr) ≡ 0 → macAccessRefusal h ≡ 0) × (rowBits (macAccessRow h) ≡ take n bs)
 unfolding readMacAccess macAccessRow macAccessRefusal
 mac-access-again bs e =
-    let s = spelt readMacAccess (λ h r. (r ≡ macAccessRow h) × (encryptionRefusal (h .encrypted) (h .addr) ≡ 0 → macAccessRefusal h ≡ 0))
+    rw sub-zero at (spelt readMacAccess (λ h xs. (encryptionRefusal (h .encrypted) (h .addr) ≡ 0 → macAccessRefusal h ≡ 0) × (rowBits (macAccessRow h) ≡ xs))
     (uplink-every 1 readOption macAccessOf _ _ option-every
-    (λ head a q fits k. (rw (k .0), λ z. allowed-test _ _ _ (record { encryption = z; address = fits; fields = k .1 })))) bs 0 e in
-    (s .holds .1, ap rowBits (sym (s .holds .0)) ∙ sym (spelt-bits s))
+    (λ head a xs fits k. (λ z. allowed-test _ _ _ (record { encryption = z; address = fits; fields = k .0 }), rw (rows-append, k .1)))) bs 0 e)
 
 -- in bytes: what from_bitbuf read, to_bitbuf writes at the same cursor, and no byte changes
 pub mac-access-written-again : (s : List ℕ) (c d : Cursor) (h : MacAccess) → Bytes s → macAccessAt s c ≡ record { cursor = d; answer = MacAccessAnswer.Read h }

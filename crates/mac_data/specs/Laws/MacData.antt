@@ -1,10 +1,10 @@
 -- A MAC-DATA that is written has its length and is read back, and one that was read is written again.
 use Prim.Native.Nat.{ℕ, zero, suc, _+_, _-_, _<_}
-use mathlib.Core.Path.{_≡_, refl, sym, ap, _∙_}
-use mathlib.Core.List.{List, [], _∷_, _++_, append-assoc}
+use mathlib.Core.Path.{_≡_, refl, ap, _∙_}
+use mathlib.Core.List.{List, [], _∷_, _++_, append-assoc, append-nil}
 use mathlib.Core.Bool.{Bool, true, false}
 use native.Mathlib.Omega.{arith}
-use native.Mathlib.Nat.{zero-add}
+use native.Mathlib.Nat.{zero-add, sub-zero}
 use lib.ListN.{length, take, getD, length-append}
 use lib.Seq.{getD-at}
 use lib.Dec.{lit<}
@@ -17,14 +17,14 @@ use Rattle.tetra_core.specs.declared.bitbuffer.Cursor.{Cursor}
 use Rattle.tetra_core.specs.declared.bitbuffer.Outcome.the-variants.{Done}
 use Rattle.codec.specs.Reader.{got, run}
 use Rattle.codec.specs.Header.{within}
-use Rattle.codec.specs.Row.{cell, size, rowBits, RowFits}
+use Rattle.codec.specs.Row.{size, rowBits, RowFits}
 use Rattle.codec.specs.Write.{refusalAt, free}
 use Rattle.codec.specs.Back.{gives, written-back}
-use Rattle.codec.specs.Cases.{flag-back}
+use Rattle.codec.specs.Again.{Every, spelt, read-at, read-bits, written-again}
+use Rattle.codec.specs.Cases.{flag-back, flag-again, one-again}
 use Rattle.tetra_fields.specs.UplinkAddress.{encryptionRefusal}
-use Rattle.tetra_fields.specs.Laws.Again.{Every, spelt, spelt-bits, flag-again, one-again, read-at, read-bits, written-again}
 use Rattle.tetra_fields.specs.UplinkHead.{uplinkRow}
-use Rattle.tetra_fields.specs.Laws.Rows.{rows-append, one-cell}
+use Rattle.tetra_fields.specs.Laws.Rows.{rows-append}
 use Rattle.tetra_fields.specs.Laws.ReservationRequirement.{reservation-back, reservation-again}
 use Rattle.tetra_fields.specs.Laws.UplinkHead.{allowed, allowed-test, uplink-length, uplink-back, uplink-every}
 use Rattle.mac_data.specs.MacData.{headOf, macDataOf, readRequest, readOption, readMacData, macDataAt, optionRefusal, macDataRefusal, optionRow, macDataRow, macDataSize, macDataWrite, macDataWritten, normal, reservedBit}
@@ -80,16 +80,16 @@ last-bit xs (suc zero) h e =
     let z = rw (getD-at xs true [] false _ l) at e in let o : _≡_ {A = ℕ} 0 1 = cc in omega arith)
 last-bit xs (suc (suc b)) h e = absurd (omega arith)
 
-option-every : Every readOption (λ a r. (optionRefusal a ≡ 0) × ((xs : List Bool) → reservedBit a (xs ++ rowBits r) ≡ false → r ≡ optionRow a))
-unfolding readOption readRequest
+option-every : Every readOption (λ a xs. (optionRefusal a ≡ 0) × ((ys : List Bool) → reservedBit a (ys ++ xs) ≡ false → rowBits (optionRow a) ≡ xs))
+unfolding readOption readRequest rowBits
 option-every selector ls = (
-  λ e length ll. (rw (le-leb length 63 (omega arith)), λ xs _. rw (eqb-true selector 0 e)),
+  λ e length ll. (rw (le-leb length 63 (omega arith)), λ ys _. rw (eqb-true selector 0 e)),
   λ e frag lf req lr reserved lv. (
     refl,
-    λ xs z.
-        let r = cell 1 selector ∷ cell 1 frag ∷ cell 4 req ∷ [] in
-        let w : xs ++ rowBits (r ++ (cell 1 reserved ∷ [])) ≡ (xs ++ rowBits r) ++ bitsOfNat 1 reserved = rw (rows-append r (cell 1 reserved ∷ []), one-cell, append-assoc) in
-        rw (one-again selector ls e, flag-again frag lf, reservation-again req lr, last-bit (xs ++ rowBits r) reserved lv (rw w at z)),
+    λ ys z.
+        let xs = ys ++ (bitsOfNat 1 selector ++ (bitsOfNat 1 frag ++ bitsOfNat 4 req)) in
+        let w : ys ++ (bitsOfNat 1 selector ++ (bitsOfNat 1 frag ++ (bitsOfNat 4 req ++ (bitsOfNat 1 reserved ++ [])))) ≡ xs ++ bitsOfNat 1 reserved = simp (append-assoc, append-nil) in
+        rw (one-again selector ls e, flag-again frag lf, reservation-again req lr, last-bit xs reserved lv (rw w at z)),
   ),
 )
 
@@ -98,14 +98,13 @@ pub mac-data-again : (bs : List Bool) {h : MacData} {r : List Bool} {n : ℕ} �
     → (encryptionRefusal (h .encrypted) (h .addr) ≡ 0 → macDataRefusal h ≡ 0) × (reservedBit (h .option) (take n bs) ≡ false → rowBits (macDataRow h) ≡ take n bs)
 unfolding readMacData macDataRow macDataRefusal
 mac-data-again bs e =
-    let s = spelt readMacData
-    (λ h r. (encryptionRefusal (h .encrypted) (h .addr) ≡ 0 → macDataRefusal h ≡ 0) × (reservedBit (h .option) (rowBits r) ≡ false → r ≡ macDataRow h))
+    rw sub-zero at (spelt readMacData
+    (λ h xs. (encryptionRefusal (h .encrypted) (h .addr) ≡ 0 → macDataRefusal h ≡ 0) × (reservedBit (h .option) xs ≡ false → rowBits (macDataRow h) ≡ xs))
     (uplink-every 2 readOption macDataOf _ _ option-every
-    (λ head a q fits k. (
+    (λ head a xs fits k. (
       λ z. allowed-test _ _ _ (record { encryption = z; address = fits; fields = k .0 }),
-      λ z. rw (k .1 (rowBits (uplinkRow 2 head)) (rw (rows-append (uplinkRow 2 head) q) at z)),
-    ))) bs 0 e in
-    (s .holds .0, λ z. ap rowBits (sym (s .holds .1 (rw (spelt-bits s) at z))) ∙ sym (spelt-bits s))
+      λ z. rw (rows-append, k .1 (rowBits (uplinkRow 2 head)) z),
+    ))) bs 0 e)
 
 -- in bytes: what from_bitbuf read, to_bitbuf writes at the same cursor, and no byte changes
 pub mac-data-written-again : (s : List ℕ) (c d : Cursor) (h : MacData) → Bytes s → macDataAt s c ≡ record { cursor = d; answer = MacDataAnswer.Read h }

@@ -1,24 +1,23 @@
 -- What is read, written again, gives the bits that were read, wherever nothing was cleared.
 use Prim.Native.Nat.{ℕ, zero, suc, _-_, _^_, _<_}
 use mathlib.Core.Path.{_≡_, refl, sym, ap, _∙_}
-use mathlib.Core.List.{List, [], _∷_, _++_, append-assoc, append-nil}
+use mathlib.Core.List.{List, [], _∷_, _++_, append-nil}
 use mathlib.Core.Bool.{Bool, true, false, not, true≢false}
-use native.Mathlib.Omega.{arith}
 use lib.ListN.{take}
 use lib.Dec.{eqb}
-use borrow.Author.Tests.{eqb-true, eqb-false, not-true, not-false, lt-ltb}
-use Rattle.bits.specs.Bits.{digit, bitsOfNat}
+use borrow.Author.Tests.{eqb-true, not-true, not-false, lt-ltb}
+use Rattle.bits.specs.Bits.{bitsOfNat}
 use Rattle.tetra_core.specs.Refusal.{unless, first, first-skip, first-last}
 use Rattle.tetra_core.specs.declared.address.TetraAddress.{TetraAddress}
-use Rattle.codec.specs.Reader.{got, Reader, done, run}
+use Rattle.codec.specs.Reader.{got, Reader, run}
 use Rattle.codec.specs.Row.{rowBits}
-use Rattle.codec.specs.Cases.{flag}
+use Rattle.codec.specs.Again.{Every, spelt, every-bind}
 use Rattle.codec.specs.Below.{numbers}
-use Rattle.tetra_fields.specs.Taken.{Always, took, always-bind}
+use Rattle.codec.specs.Cases.{flag-again, one-again}
 use Rattle.tetra_fields.specs.BasicSlotgrant.{readSlotgrant}
 use Rattle.tetra_fields.specs.ChannelAllocation.{readChannelAllocation}
-use Rattle.tetra_fields.specs.Laws.BasicSlotgrant.{SlotgrantAgain, slotgrant-always}
-use Rattle.tetra_fields.specs.Laws.ChannelAllocation.{ChannelAllocationAgain, channel-allocation-always}
+use Rattle.tetra_fields.specs.Laws.BasicSlotgrant.{SlotgrantAgain, slotgrant-every}
+use Rattle.tetra_fields.specs.Laws.ChannelAllocation.{ChannelAllocationAgain, channel-allocation-every}
 use Rattle.mac_resource.specs.Address.{addrTypeNumber, addrTypeOf, typeOf, isNull, readAddress, one, two, addressRefusal, addressRow, normalAddress}
 use Rattle.mac_resource.specs.Fixed.{readFixed, readBehindType, FixedFits, fixedRow}
 use Rattle.mac_resource.specs.Elements.{optional, powerElement, grantingElement, allocationElement, readPower, readGranting, readAllocation, readElements, powerRefusal, grantingRefusal, allocationRefusal, elementsRefusal, powerRow, grantingRow, flagRow, allocationBits, elementsBits, normalAllocation, normalElements}
@@ -44,16 +43,15 @@ addr-type-numbers : (v : ℕ) → v < 8 → addrTypeNumber (addrTypeOf v) ≡ v
 unfolding addrTypeOf
 addr-type-numbers = numbers addrTypeNumber addrTypeOf 8 refl
 
-pub fixed-always : Always FixedAgain [] readFixed
+pub fixed-every : Every readFixed FixedAgain
 unfolding readFixed readBehindType fixedRow rowBits
-fixed-always =
-    λ _ k hk. (
-      λ _. tt,
-      λ k0 f hf p hp e he r hr l hl t ht. (
-        record { position = hp; encryption = he; len = hl },
-        rw (numbers digit flag 2 refl f hf, numbers digit flag 2 refl r hr, addr-type-numbers t ht, eqb-true k 0 (not-false _ k0)) (simp (append-assoc, append-nil)),
-      ),
-    )
+fixed-every _ k hk = (
+  λ _. tt,
+  λ k0 f hf p hp e he r hr l hl t ht. (
+    record { position = hp; encryption = he; len = hl },
+    rw (flag-again f hf, flag-again r hr, addr-type-numbers t ht, eqb-true k 0 (not-false _ k0)),
+  ),
+)
 
 -- ---- the address
 
@@ -61,16 +59,16 @@ fixed-always =
 abbrev pub AddressAgain : MacResourceAddrType → TetraAddress → List Bool → Type 0
 AddressAgain t a xs = (addressRefusal a ≡ 0) × (typeOf a ≡ t) × (normalAddress a ≡ a) × (rowBits (addressRow a) ≡ xs)
 
-pub address-always : (t : MacResourceAddrType) → Always (AddressAgain t) [] (readAddress t)
+pub address-every : (t : MacResourceAddrType) → Every (readAddress t) (AddressAgain t)
 unfolding readAddress one two rowBits first
-address-always NullPdu = (refl, refl, refl, refl)
-address-always Ssi = λ v hv. (rw (lt-ltb v (2 ^ 24) hv), refl, refl, rw append-nil)
-address-always EventLabel = λ v hv. (rw (lt-ltb v (2 ^ 10) hv), refl, refl, rw append-nil)
-address-always Ussi = λ v hv. (rw (lt-ltb v (2 ^ 24) hv), refl, refl, rw append-nil)
-address-always Smi = λ v hv. (rw (lt-ltb v (2 ^ 24) hv), refl, refl, rw append-nil)
-address-always SsiAndEventLabel = λ v hv l hl. (rw (lt-ltb v (2 ^ 24) hv, lt-ltb l (2 ^ 10) hl), refl, refl, rw append-nil)
-address-always SsiAndUsageMarker = λ v hv m hm. (rw (lt-ltb v (2 ^ 24) hv, lt-ltb m (2 ^ 6) hm), refl, refl, rw append-nil)
-address-always SmiAndEventLabel = λ v hv l hl. (rw (lt-ltb v (2 ^ 24) hv, lt-ltb l (2 ^ 10) hl), refl, refl, rw append-nil)
+address-every NullPdu = (refl, refl, refl, refl)
+address-every Ssi = λ v hv. (rw (lt-ltb v (2 ^ 24) hv), refl, refl, refl)
+address-every EventLabel = λ v hv. (rw (lt-ltb v (2 ^ 10) hv), refl, refl, refl)
+address-every Ussi = λ v hv. (rw (lt-ltb v (2 ^ 24) hv), refl, refl, refl)
+address-every Smi = λ v hv. (rw (lt-ltb v (2 ^ 24) hv), refl, refl, refl)
+address-every SsiAndEventLabel = λ v hv l hl. (rw (lt-ltb v (2 ^ 24) hv, lt-ltb l (2 ^ 10) hl), refl, refl, refl)
+address-every SsiAndUsageMarker = λ v hv m hm. (rw (lt-ltb v (2 ^ 24) hv, lt-ltb m (2 ^ 6) hm), refl, refl, refl)
+address-every SmiAndEventLabel = λ v hv l hl. (rw (lt-ltb v (2 ^ 24) hv, lt-ltb l (2 ^ 10) hl), refl, refl, refl)
 
 -- ---- the elements
 
@@ -86,46 +84,40 @@ AllocationAgain a xs = (allocationRefusal a ≡ 0) × (normalAllocation a ≡ a)
 abbrev pub ElementsAgain : Elements → List Bool → Type 0
 ElementsAgain e xs = (elementsRefusal e ≡ 0) × (normalElements e ≡ e) × (elementsBits e ≡ xs)
 
--- a flag that is set is 1
-set : (x : ℕ) → x < 2 → flag x ≡ true → x ≡ 1
-set x h e = omega (arith, eqb-false x 0 (not-true _ e))
-
-optional-always : {A : Type 0} (P : A → List Bool → Type 0) (p : Reader A) (a : A) → Always P (bitsOfNat 1 1) p → P a (bitsOfNat 1 0) → Always P [] (optional p a)
+optional-every : {A : Type 0} (P : A → List Bool → Type 0) (p : Reader A) (a : A) → Every p (λ b xs. P b (bitsOfNat 1 1 ++ xs)) → P a (bitsOfNat 1 0 ++ [])
+    → Every (optional p a) P
 unfolding optional
-optional-always P p a h z = λ x hx. (λ e. rw (set x hx e) h, λ e. rw (eqb-true x 0 (not-false _ e)) z)
+optional-every P p a h z x hx = (λ e. rw (one-again x hx (not-true _ e)) h, λ e. rw (eqb-true x 0 (not-false _ e)) z)
 
-pub power-always : Always PowerAgain [] readPower
+pub power-every : Every readPower PowerAgain
 unfolding readPower rowBits
-power-always =
-    optional-always PowerAgain powerElement PowerControl.Without
-    (λ v hv. (rw (lt-ltb v (2 ^ 4) hv), rw append-nil))
-    (refl, rw append-nil)
+power-every = optional-every PowerAgain powerElement PowerControl.Without (λ v hv. (rw (lt-ltb v (2 ^ 4) hv), refl)) (refl, refl)
 
-pub granting-always : Always GrantingAgain [] readGranting
+pub granting-every : Every readGranting GrantingAgain
 unfolding readGranting rowBits
-granting-always =
-    optional-always GrantingAgain grantingElement SlotGranting.Without
-    (always-bind SlotgrantAgain GrantingAgain readSlotgrant (λ g. done (SlotGranting.Element g)) (bitsOfNat 1 1) slotgrant-always (λ g xs h. (h .0, rw (h .1))))
-    (refl, rw append-nil)
+granting-every =
+    optional-every GrantingAgain grantingElement SlotGranting.Without
+    (every-bind readSlotgrant _ SlotgrantAgain _ slotgrant-every (λ g xs h. (h .0, rw (h .1, append-nil))))
+    (refl, refl)
 
-pub allocation-always : Always AllocationAgain [] readAllocation
+pub allocation-every : Every readAllocation AllocationAgain
 unfolding readAllocation rowBits
-allocation-always =
-    optional-always AllocationAgain allocationElement ChannelAllocation.Without
-    (always-bind ChannelAllocationAgain AllocationAgain readChannelAllocation (λ e. done (ChannelAllocation.Element e)) (bitsOfNat 1 1) channel-allocation-always
-    (λ e xs h. (h .0, ap ChannelAllocation.Element (h .1), rw (append-nil, h .2))))
-    (refl, refl, rw (append-nil, append-nil))
+allocation-every =
+    optional-every AllocationAgain allocationElement ChannelAllocation.Without
+    (every-bind readChannelAllocation _ ChannelAllocationAgain _ channel-allocation-every
+    (λ e xs h. (h .0, ap ChannelAllocation.Element (h .1), rw (append-nil, append-nil, h .2))))
+    (refl, refl, append-nil _)
 
-pub elements-always : Always ElementsAgain [] readElements
+pub elements-every : Every readElements ElementsAgain
 unfolding readElements elementsRefusal elementsBits
-elements-always =
-    always-bind PowerAgain ElementsAgain readPower _ [] power-always
-    (λ p xs hp. always-bind GrantingAgain ElementsAgain readGranting _ xs granting-always
-    (λ g ys hg. always-bind AllocationAgain ElementsAgain readAllocation _ (xs ++ ys) allocation-always
+elements-every =
+    every-bind readPower _ PowerAgain ElementsAgain power-every
+    (λ p xs hp. every-bind readGranting _ GrantingAgain _ granting-every
+    (λ g ys hg. every-bind readAllocation _ AllocationAgain _ allocation-every
     (λ a zs ha. (
       rw (hp .0, hg .0, ha .0, first-skip 0 _ refl, first-skip 0 _ refl, first-last),
       rw (ha .1),
-      rw (hp .1, hg .1, ha .2, append-assoc),
+      rw (hp .1, hg .1, ha .2, append-nil),
     ))))
 
 -- ---- the whole
@@ -161,7 +153,7 @@ cleared f a xs ys n hf ha =
     (λ _. record { fixed = f; kind = sym (ha .1) ∙ ap typeOf z; header = refl; bits = rw (none, append-nil) (hf .1) }, λ m. absurd (true≢false m))
 
 same : (f : Fixed) (a : TetraAddress) (e : Elements) (xs ys zs : List Bool) → isNull a ≡ false → FixedAgain f xs → AddressAgain (f .«addr_type») a ys → ElementsAgain e zs
-    → Same (headerOf f a e) ((xs ++ ys) ++ zs)
+    → Same (headerOf f a e) (xs ++ (ys ++ zs))
 unfolding fieldsRefusal normalMacResource headerBits fixedRow
 same f a e xs ys zs n hf ha he =
     let fits = hf .0 in
@@ -171,19 +163,19 @@ same f a e xs ys zs n hf ha he =
       fields = told;
       refusal = refused-as (headerOf f a e) n (fits .len) ∙ ap (λ (j : ℕ). first (unless (not (eqb (f .«length_ind») 0)) 8 ∷ j ∷ [])) told;
       normal = rw (n, ha .2) (ap (headerOf f a) (he .1));
-      bits = rw (n, ha .1, hf .1, ha .3, he .2, append-assoc);
+      bits = rw (n, ha .1, hf .1, ha .3, he .2);
     }
 
-pub mac-resource-always : Always MacResourceAgain [] readMacResource
+pub mac-resource-every : Every readMacResource MacResourceAgain
 unfolding readMacResource
-mac-resource-always =
-    always-bind FixedAgain MacResourceAgain readFixed _ [] fixed-always
-    (λ f xs hf. always-bind (AddressAgain (f .«addr_type»)) MacResourceAgain (readAddress (f .«addr_type»)) _ xs (address-always (f .«addr_type»))
+mac-resource-every =
+    every-bind readFixed _ FixedAgain MacResourceAgain fixed-every
+    (λ f xs hf. every-bind (readAddress (f .«addr_type»)) _ (AddressAgain (f .«addr_type»)) _ (address-every (f .«addr_type»))
     (λ a ys ha. (
-      λ n. cleared f a xs ys n hf ha,
-      λ n. always-bind ElementsAgain MacResourceAgain readElements _ (xs ++ ys) elements-always
-          (λ e zs he. (λ m. absurd (true≢false (sym m ∙ n)), λ _. same f a e xs ys zs n hf ha he)),
+      λ n. rw append-nil (cleared f a xs ys n hf ha),
+      λ n. every-bind readElements _ ElementsAgain _ elements-every
+          (λ e zs he. (λ m. absurd (true≢false (sym m ∙ n)), λ _. rw append-nil (same f a e xs ys zs n hf ha he))),
     )))
 
 pub mac-resource-again : (bs : List Bool) (o : ℕ) {h : MacResource} {r : List Bool} {n : ℕ} → run readMacResource bs o ≡ got h r n → MacResourceAgain h (take (n - o) bs)
-mac-resource-again bs o e = took MacResourceAgain readMacResource [] bs o mac-resource-always e
+mac-resource-again = spelt readMacResource MacResourceAgain mac-resource-every

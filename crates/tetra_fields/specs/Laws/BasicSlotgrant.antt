@@ -1,7 +1,7 @@
 -- A slot grant that nothing refuses fits its 8 bits; what was written is read back, and what was read is written as the same bits.
 use Prim.Native.Nat.{ℕ, _+_, _-_, _<_}
 use mathlib.Core.Path.{_≡_, refl}
-use mathlib.Core.List.{List, [], _++_, append-nil}
+use mathlib.Core.List.{List, _++_}
 use mathlib.Core.Bool.{Bool}
 use native.Mathlib.Omega.{arith}
 use lib.ListN.{length, take}
@@ -15,8 +15,8 @@ use Rattle.codec.specs.Reader.{got, run}
 use Rattle.codec.specs.Row.{rowBits, RowFits, length-row}
 use Rattle.codec.specs.Write.{refusalAt, free}
 use Rattle.codec.specs.Back.{gives, written-back}
+use Rattle.codec.specs.Again.{Every, spelt}
 use Rattle.codec.specs.Below.{below, numbers}
-use Rattle.tetra_fields.specs.Taken.{Always, took}
 use Rattle.tetra_fields.specs.BasicSlotgrant.{capAllocNumber, capAllocOf, delayNumber, delayOf, delayRefusal, readSlotgrant, slotgrantAt, slotgrantRefusal, slotgrantRow, slotgrantWritten}
 use Rattle.tetra_fields.specs.declared.enums.basic_slotgrant_cap_alloc.BasicSlotgrantCapAlloc.{BasicSlotgrantCapAlloc}
 use Rattle.tetra_fields.specs.declared.enums.basic_slotgrant_cap_alloc.BasicSlotgrantCapAlloc.the-variants.{FirstSubslotGranted, Grant1Slot, Grant2Slots, Grant3Slots, Grant4Slots, Grant5Slots, Grant6Slots, Grant8Slots, Grant10Slots, Grant13Slots, Grant17Slots, Grant24Slots, Grant34Slots, Grant51Slots, Grant68Slots, SecondSubslotGranted}
@@ -96,9 +96,9 @@ delay-free v h = eqb-true _ _ (below 16 (λ v. eqb (delayRefusal (delayOf v)) 0)
 abbrev pub SlotgrantAgain : BasicSlotgrant → List Bool → Type 0
 SlotgrantAgain g xs = (slotgrantRefusal g ≡ 0) × (rowBits (slotgrantRow g) ≡ xs)
 
-pub slotgrant-always : Always SlotgrantAgain [] readSlotgrant
+pub slotgrant-every : Every readSlotgrant SlotgrantAgain
 unfolding readSlotgrant slotgrantRefusal slotgrantRow rowBits
-slotgrant-always = λ a ha d hd. (delay-free d hd, rw (cap-alloc-numbers a ha, delay-numbers d hd, append-nil))
+slotgrant-every a ha d hd = (delay-free d hd, rw (cap-alloc-numbers a ha, delay-numbers d hd))
 
 pub slotgrant-again : (bs : List Bool) (o : ℕ) {g : BasicSlotgrant} {r : List Bool} {n : ℕ} → run readSlotgrant bs o ≡ got g r n → SlotgrantAgain g (take (n - o) bs)
-slotgrant-again bs o h = took SlotgrantAgain readSlotgrant [] bs o slotgrant-always h
+slotgrant-again = spelt readSlotgrant SlotgrantAgain slotgrant-every

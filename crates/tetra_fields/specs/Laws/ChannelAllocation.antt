@@ -19,9 +19,9 @@ use Rattle.codec.specs.Feed.{field-alone}
 use Rattle.codec.specs.Row.{cell, rowBits, RowFits, length-row}
 use Rattle.codec.specs.Write.{refusalAt, free}
 use Rattle.codec.specs.Back.{give, gives, written-back}
-use Rattle.codec.specs.Cases.{flag, flag-back}
+use Rattle.codec.specs.Again.{Every, spelt}
+use Rattle.codec.specs.Cases.{flag, flag-back, flag-again}
 use Rattle.codec.specs.Below.{numbers}
-use Rattle.tetra_fields.specs.Taken.{Always, took}
 use Rattle.tetra_fields.specs.ChannelAllocation.{allocTypeNumber, allocTypeOf, ulDlNumber, ulDlOf, ulDlRefusal, timeslotsNumber, timeslotsOf, frame18Number, readMonPatterns, readChannelAllocation, channelAllocationAt, patternRefusal, frame18Refusal, lenRefusal, channelAllocationRefusal, channelAllocationRow, frame18Row, channelAllocationBits, channelAllocationLen, lenOr, computeLen, channelAllocationWritten, normalChannelAllocation}
 use Rattle.tetra_fields.specs.declared.enums.alloc_type.ChanAllocType.{ChanAllocType}
 use Rattle.tetra_fields.specs.declared.enums.alloc_type.ChanAllocType.the-variants.{Replace, Additional, QuitAndGo, ReplaceWithCarrierSignalling}
@@ -228,7 +228,7 @@ fields-again : {a t d c f k x m : ℕ} (p : Frame18Pattern) (ys : List Bool) →
       «mon_pattern» = m;
       «frame18_mon_pattern» = p;
     })
-    ((((((((bitsOfNat 2 a ++ bitsOfNat 4 t) ++ bitsOfNat 2 d) ++ bitsOfNat 1 c) ++ bitsOfNat 1 f) ++ bitsOfNat 12 k) ++ bitsOfNat 1 x) ++ bitsOfNat 2 m) ++ ys)
+    (bitsOfNat 2 a ++ (bitsOfNat 4 t ++ (bitsOfNat 2 d ++ (bitsOfNat 1 c ++ (bitsOfNat 1 f ++ (bitsOfNat 12 k ++ (bitsOfNat 1 x ++ (bitsOfNat 2 m ++ ys))))))))
 unfolding channelAllocationRefusal frame18Refusal lenRefusal channelAllocationBits channelAllocationRow frame18Row normalChannelAllocation rowBits first
 fields-again {a} {t} {d} {c} {f} {k} {x} {m} p ys ha ht hd d0 hc hf hk hx x0 hm free stays tail = (
   rw (lt-ltb k 4096 hk, lt-ltb m 4 hm, free, ul-dl-free d hd (eqb-false d 0 d0)),
@@ -237,25 +237,24 @@ fields-again {a} {t} {d} {c} {f} {k} {x} {m} p ys ha ht hd d0 hc hf hk hx x0 hm 
     alloc-type-numbers a ha,
     numbers timeslotsNumber timeslotsOf 16 refl t ht,
     ul-dl-numbers d hd,
-    numbers digit flag 2 refl c hc,
-    numbers digit flag 2 refl f hf,
+    flag-again c hc,
+    flag-again f hf,
     tail,
     eqb-true x 0 (not-false _ x0),
   )
       (simp append-assoc),
 )
 
-pub channel-allocation-always : Always ChannelAllocationAgain [] readChannelAllocation
+pub channel-allocation-every : Every readChannelAllocation ChannelAllocationAgain
 unfolding readChannelAllocation readMonPatterns rowBits
-channel-allocation-always =
-    λ a ha t ht _ d hd c hc f hf k hk _ x hx. (
-      λ _. tt,
-      λ x0 m hm. (
-        λ m0 v hv. (λ _. tt, λ d0. fields-again (Pattern v) (bitsOfNat 2 v) ha ht hd d0 hc hf hk hx x0 hm (rw (m0, lt-ltb v 4 hv)) (rw m0) (rw (m0, append-nil))),
-        λ m0. (λ _. tt, λ d0. rw append-nil at (fields-again Without [] ha ht hd d0 hc hf hk hx x0 hm (rw m0) (rw m0) (rw m0))),
-      ),
-    )
+channel-allocation-every a ha t ht _ d hd c hc f hf k hk _ x hx = (
+  λ _. tt,
+  λ x0 m hm. (
+    λ m0 v hv. (λ _. tt, λ d0. fields-again (Pattern v) (bitsOfNat 2 v ++ []) ha ht hd d0 hc hf hk hx x0 hm (rw (m0, lt-ltb v 4 hv)) (rw m0) (rw m0)),
+    λ m0. (λ _. tt, λ d0. fields-again Without [] ha ht hd d0 hc hf hk hx x0 hm (rw m0) (rw m0) (rw m0)),
+  ),
+)
 
 pub channel-allocation-again : (bs : List Bool) (o : ℕ) {e : ChanAllocElement} {r : List Bool} {n : ℕ} → run readChannelAllocation bs o ≡ got e r n
     → ChannelAllocationAgain e (take (n - o) bs)
-channel-allocation-again bs o h = took ChannelAllocationAgain readChannelAllocation [] bs o channel-allocation-always h
+channel-allocation-again = spelt readChannelAllocation ChannelAllocationAgain channel-allocation-every

@@ -1,16 +1,15 @@
 -- Reservation requirements: the number of a case and the case of a number, and the case that is enough for some slots.
 use Prim.Native.Nat.{ℕ, zero, suc, _<_}
-use mathlib.Core.Path.{_≡_, refl, sym, _∙_}
+use mathlib.Core.Path.{_≡_, refl, sym}
 use mathlib.Core.List.{List, [], _∷_}
 use mathlib.Core.Bool.{Bool, true, false, _&&_}
 use native.Mathlib.Omega.{arith}
-use native.Mathlib.Nat.{zero-add}
 use lib.ListN.{getD}
 use lib.Dec.{leb, lit<}
 use borrow.Author.Tests.{leb-true, lt-leb, ne-eqb}
 use Rattle.tetra_core.specs.Laws.Windows.{and-both}
+use Rattle.codec.specs.Below.{numbers}
 use Rattle.tetra_fields.specs.ReservationRequirement.{reservationNumber, reservationOf, reservations, slotcount, enough, firstFor, reservationFor}
-use Rattle.tetra_fields.specs.Laws.Again.{case-again}
 use Rattle.tetra_fields.specs.declared.enums.reservation_requirement.ReservationRequirement.{ReservationRequirement}
 use Rattle.tetra_fields.specs.declared.enums.reservation_requirement.ReservationRequirement.the-variants.{Req1Subslot, Req1Slot, Req2Slots, Req3Slots, Req4Slots, Req5Slots, Req6Slots, Req8Slots, Req10Slots, Req13Slots, Req17Slots, Req24Slots, Req34Slots, Req51Slots, Req68Slots, ReqOver68}
 use Rattle.tetra_fields.specs.declared.enums.reservation_requirement.ReqSlotcount.{ReqSlotcount}
@@ -39,7 +38,7 @@ reservation-back ReqOver68 = (lit< tt, refl)
 -- the case of a number of 4 bits has that number
 pub reservation-again : (v : ℕ) → v < 16 → reservationNumber (reservationOf v) ≡ v
 unfolding reservationOf
-reservation-again v h = case-again reservationNumber reservations ReqOver68 0 refl v (omega arith) ∙ zero-add v
+reservation-again = numbers reservationNumber reservationOf 16 refl
 
 -- ---- the case for some slots
 

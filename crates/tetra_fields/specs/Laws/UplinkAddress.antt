@@ -1,20 +1,18 @@
 -- The uplink address: an address that nothing refuses fits its bits, what was written is read back, and what was read is written again.
 use Prim.Native.Nat.{ℕ, zero, suc, _/_, _^_, _≤_, _<_}
-use mathlib.Core.Path.{_≡_, refl, _∙_}
-use mathlib.Core.List.{[], _∷_}
+use mathlib.Core.Path.{_≡_, refl}
 use mathlib.Core.Bool.{Bool, true, false, cond}
 use native.Mathlib.Omega.{arith}
-use native.Mathlib.Nat.{zero-add, one-mul, le-div-iff-mul-le, div-lt-iff-lt-mul}
+use native.Mathlib.Nat.{one-mul, le-div-iff-mul-le, div-lt-iff-lt-mul}
 use lib.Dec.{eqb, lit<, lit≤}
 use lib.Pow.{pow-pos}
 use borrow.Author.Tests.{ltb-true}
 use Rattle.tetra_core.specs.Address.{uplinkAddressType}
 use Rattle.tetra_core.specs.Refusal.{passed}
-use Rattle.tetra_core.specs.declared.address.SsiType.the-variants as Kind'
 use Rattle.tetra_core.specs.declared.address.UplinkAddress.{UplinkAddress}
 use Rattle.tetra_core.specs.declared.address.UplinkAddress.the-variants.{Ssi, EventLabel, Ussi, Smi}
+use Rattle.codec.specs.Below.{numbers}
 use Rattle.tetra_fields.specs.UplinkAddress.{uplinkWidth, uplinkOf, uplinkNumber, uplinkAddressRefusal, encryptionRefusal, normalUplink}
-use Rattle.tetra_fields.specs.Laws.Again.{case-again}
 
 -- ---- widths
 
@@ -64,7 +62,7 @@ address-back (Smi v) = refl
 
 pub type-again : (kind v : ℕ) → kind < 4 → uplinkAddressType (uplinkOf kind v) ≡ kind
 unfolding uplinkOf
-type-again kind v h = case-again uplinkAddressType (Ssi Kind'.Issi v ∷ EventLabel v ∷ Ussi v ∷ []) (Smi v) 0 refl kind (omega arith) ∙ zero-add kind
+type-again kind v = numbers uplinkAddressType (λ k. uplinkOf k v) 4 refl kind
 
 pub number-again : (kind v : ℕ) → uplinkNumber (uplinkOf kind v) ≡ v
 unfolding uplinkOf

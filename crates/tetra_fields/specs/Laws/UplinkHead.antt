@@ -18,11 +18,11 @@ use Rattle.codec.specs.Reader.{got, Reader, done, run, run-bind, _>>=_}
 use Rattle.codec.specs.Feed.{field-alone}
 use Rattle.codec.specs.Row.{Cell, cell, size, rowBits, RowFits, RowIs, length-row, join-bits, row-is}
 use Rattle.codec.specs.Back.{gives}
-use Rattle.codec.specs.Cases.{flag-back}
+use Rattle.codec.specs.Again.{Every, every-bind}
+use Rattle.codec.specs.Cases.{flag-back, flag-again}
 use Rattle.tetra_fields.specs.UplinkAddress.{uplinkWidth, uplinkNumber, readUplinkAddress, encryptionRefusal, uplinkAddressRefusal, uplinkAddressRow}
 use Rattle.tetra_fields.specs.UplinkHead.{readUplinkBody, readUplinkHead, uplinkRefusal, uplinkBodyRow, uplinkRow, bodySize, uplinkSize, normalHead}
 use Rattle.tetra_fields.specs.Laws.Rows.{rows-append, rows-joined, one-cell}
-use Rattle.tetra_fields.specs.Laws.Again.{Every, every-bind, every-map, flag-again}
 use Rattle.tetra_fields.specs.Laws.UplinkAddress.{type-lt, number-fits, address-back, type-again, number-again}
 use Rattle.tetra_fields.specs.declared.fields.uplink_head.UplinkHead.{UplinkHead}
 
@@ -122,21 +122,23 @@ uplink-back w p make h q e back rest o =
 
 -- ---- what was read is written again
 
-head-every : (w : ℕ) → Every (readUplinkHead w) (λ h r. (r ≡ uplinkRow w h) × (uplinkAddressRefusal (h .addr) ≡ 0))
-unfolding readUplinkHead readUplinkBody readUplinkAddress uplinkRow uplinkBodyRow uplinkAddressRow uplinkAddressRefusal
+-- a head's address is not refused, and its bits are xs
+abbrev HeadAgain : ℕ → UplinkHead → List Bool → Type 0
+HeadAgain w h xs = (uplinkAddressRefusal (h .addr) ≡ 0) × (rowBits (uplinkRow w h) ≡ xs)
+
+head-every : (w : ℕ) → Every (readUplinkHead w) (HeadAgain w)
+unfolding readUplinkHead readUplinkBody readUplinkAddress uplinkRow uplinkBodyRow uplinkAddressRow uplinkAddressRefusal rowBits
 head-every w o type lt = (
   λ _. tt,
   λ e fill lf encrypted le kind lk v lv. (
-    rw (eqb-true type 0 (not-false _ e), flag-again fill lf, flag-again encrypted le, type-again kind v lk, number-again kind v),
     rw (type-again kind v lk, number-again kind v, lt-ltb v (2 ^ uplinkWidth kind) lv),
+    rw (eqb-true type 0 (not-false _ e), flag-again fill lf, flag-again encrypted le, type-again kind v lk, number-again kind v),
   ),
 )
 
-pub uplink-every : {A B : Type 0} (w : ℕ) (p : Reader A) (make : UplinkHead → A → B) (Q : A → List Cell → Type 0) (P : B → List Cell → Type 0) → Every p Q
-    → ((h : UplinkHead) (v : A) (q : List Cell) → uplinkAddressRefusal (h .addr) ≡ 0 → Q v q → P (make h v) (uplinkRow w h ++ q))
+pub uplink-every : {A B : Type 0} (w : ℕ) (p : Reader A) (make : UplinkHead → A → B) (Q : A → List Bool → Type 0) (P : B → List Bool → Type 0) → Every p Q
+    → ((h : UplinkHead) (v : A) (xs : List Bool) → uplinkAddressRefusal (h .addr) ≡ 0 → Q v xs → P (make h v) (rowBits (uplinkRow w h) ++ xs))
     → Every (readUplinkHead w >>= (λ a. p >>= (λ b. done (make a b)))) P
 uplink-every w p make Q P e f =
-    every-bind (readUplinkHead w) _ P
-    (every-map (readUplinkHead w) (λ h r. (r ≡ uplinkRow w h) × (uplinkAddressRefusal (h .addr) ≡ 0)) _
-    (λ h r k. every-bind p _ (λ b q. P b (r ++ q)) (every-map p Q _ (λ v q z. rw (append-nil, k .0) (f h v q (k .1) z)) e))
-    (head-every w))
+    every-bind (readUplinkHead w) _ (HeadAgain w) P (head-every w)
+    (λ h xs k. every-bind p _ Q (λ b ys. P b (xs ++ ys)) e (λ v ys z. rw (append-nil, ← k .1) (f h v ys (k .0) z)))
