@@ -5,7 +5,6 @@ use tetra_mac::assign;
 use tetra_mac::bitbuffer;
 use tetra_mac::channel_allocation;
 use tetra_mac::data;
-use tetra_mac::resource;
 use tetra_mac::slotgrant;
 
 // The status of a call that there is none of.
@@ -15,7 +14,7 @@ fn read(kind: u64, s: &[u8], start: usize, pos: usize, end: usize, out: &mut [u6
     match kind {
         0 => slotgrant::tetra_slotgrant_read(s, start, pos, end, out),
         1 => channel_allocation::tetra_channel_allocation_read(s, start, pos, end, out),
-        2 => resource::tetra_mac_resource_read(s, start, pos, end, out),
+        2 => tetra_resource::tetra_mac_resource_read(s, start, pos, end, out),
         3 => assign::tetra_access_assign_read(s, start, pos, end, out),
         4 => access::tetra_mac_access_read(s, start, pos, end, out),
         5 => data::tetra_mac_data_read(s, start, pos, end, out),
@@ -35,7 +34,7 @@ fn write(
     match kind {
         0 => slotgrant::tetra_slotgrant_write(s, start, pos, end, words, out),
         1 => channel_allocation::tetra_channel_allocation_write(s, start, pos, end, words, out),
-        2 => resource::tetra_mac_resource_write(s, start, pos, end, words, out),
+        2 => tetra_resource::tetra_mac_resource_write(s, start, pos, end, words, out),
         3 => assign::tetra_access_assign_write(s, start, pos, end, words, out),
         4 => access::tetra_mac_access_write(s, start, pos, end, words, out),
         5 => data::tetra_mac_data_write(s, start, pos, end, words, out),
@@ -82,8 +81,8 @@ fn bit(
 fn length(call: u64, words: &[u64], out: &mut [u64; 32]) -> u64 {
     match call {
         40 => channel_allocation::tetra_channel_allocation_len(words, out),
-        41 => resource::tetra_mac_resource_header_len(words, out),
-        42 => resource::tetra_mac_resource_update_len(words, word(words, 25) as usize, out),
+        41 => tetra_resource::tetra_mac_resource_header_len(words, out),
+        42 => tetra_resource::tetra_mac_resource_update_len(words, word(words, 25) as usize, out),
         _ => MALFORMED,
     }
 }

@@ -21,7 +21,7 @@ use Rattle.mac_block.specs.Step.{stepAnswer}
 use Rattle.mac_block.specs.Resource.{resourceCodec}
 use Rattle.mac_block.specs.Writer.{Writer, writerAt, Add, addOf, addAnswer, addTo, finishAnswer, finishTo}
 use Rattle.tetra_mac.specs.Reply.{Reply, WriteReply, replied, putFirst, statusOf, window, readReply, writeReply, valueIf}
-use Rattle.tetra_mac.specs.MacResource.{macResourceWords, macResourceKnown, macResourceValue}
+use Rattle.tetra_resource.specs.MacResource.{macResourceWords, macResourceKnown, macResourceValue}
 
 -- ---- the words of an entry
 

@@ -14,7 +14,6 @@ use mac_block::writer::Written;
 use tetra_core::bitbuffer::Cursor;
 use tetra_core::bitbuffer::Moved;
 use tetra_mac::record;
-use tetra_mac::resource;
 ghost use mathlib.Core.List.{_++_};
 ghost use mathlib.Core.Path.{_≡_};
 ghost use Prim.Native.Nat.{_≤_};
@@ -55,7 +54,7 @@ fn put_resource(out: &mut [u64], p: ResourcePdu)
         0,
     ];
     record::put_words(out, 0, &words);
-    resource::give_mac_resource(&mut out[7..], 0, p.header);
+    tetra_resource::give_mac_resource(&mut out[7..], 0, p.header);
 }
 
 fn has_end(e: PduEnd) -> u64
@@ -159,7 +158,7 @@ fn add_known(code: u64, words: &[u64]) -> bool
     if !length_known(code) {
         return false;
     }
-    resource::mac_resource_known(words)
+    tetra_resource::mac_resource_known(words)
 }
 
 // The status of a call that writes a block. The writer's bit stands in the block as a cursor's in its window.
@@ -196,7 +195,7 @@ pub extern "C" fn tetra_block_add(
     if !add_known(length, words) {
         return record::MALFORMED;
     }
-    let h = resource::mac_resource_value(words);
+    let h = tetra_resource::mac_resource_value(words);
     let indication = length_value(length);
     let done = writer::add(block, bits, bit, h, indication, content, content_bits);
     writer_moved(out, bits, done)

@@ -14,4 +14,3 @@ pub mod Address
 pub mod AccessAssign
 pub mod MacAccess
 pub mod MacData
-pub mod MacResource

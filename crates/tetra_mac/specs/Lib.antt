@@ -5,6 +5,5 @@ pub mod ChannelAllocation
 pub mod Address
 pub mod MacAccess
 pub mod MacData
-pub mod MacResource
 pub mod AccessAssign
 pub mod Laws

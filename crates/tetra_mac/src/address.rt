@@ -6,7 +6,7 @@ use tetra_core::address::UplinkAddress;
 ghost use mathlib.Core.Path.{_≡_};
 ghost use Rattle.tetra_mac.specs.Address.{ssiKind, ssiOfKind, uplinkKind, uplinkKnown, uplinkValue, addressKnown, addressValue};
 
-pub(crate) fn ssi_kind(k: SsiType) -> u64
+pub fn ssi_kind(k: SsiType) -> u64
     ensures { λ r. ⌜ r ≡ ssiKind k ⌝ }
 {
     match k {
@@ -64,7 +64,7 @@ pub(crate) fn uplink_value(addr_type: u64, kind: u64, number: u64) -> UplinkAddr
 }
 
 // Whether there is such an address type and, where it has one, such an SSI kind.
-pub(crate) fn address_known(addr_type: u64, kind: u64) -> bool
+pub fn address_known(addr_type: u64, kind: u64) -> bool
     ensures { λ r. ⌜ r ≡ addressKnown «addr_type» kind ⌝ }
 {
     match addr_type {
@@ -81,7 +81,7 @@ pub(crate) fn address_known(addr_type: u64, kind: u64) -> bool
 }
 
 // The address of a type.
-pub(crate) fn address_value(addr_type: u64, kind: u64, a: u64, b: u64) -> TetraAddress
+pub fn address_value(addr_type: u64, kind: u64, a: u64, b: u64) -> TetraAddress
     ensures { λ r. ⌜ r ≡ addressValue «addr_type» kind a b ⌝ }
 {
     let ssi = ssi_of_kind(kind);

@@ -34,7 +34,7 @@ fn frame18_value(present: u64, v: u8) -> Frame18Pattern
 }
 
 // The words of a channel allocation.
-pub(crate) fn channel_allocation_words(e: ChanAllocElement) -> [u64; 9]
+pub fn channel_allocation_words(e: ChanAllocElement) -> [u64; 9]
     ensures { λ r. ⌜ r ≡ channelAllocationWords e ⌝ }
 {
     let kind = e.alloc_type;
@@ -55,7 +55,7 @@ pub(crate) fn channel_allocation_words(e: ChanAllocElement) -> [u64; 9]
 }
 
 // Whether words are long enough for a channel allocation and have no unknown code.
-pub(crate) fn channel_allocation_known(words: &[u64]) -> bool
+pub fn channel_allocation_known(words: &[u64]) -> bool
     ensures { λ r. ⌜ r ≡ channelAllocationKnown (now (words .entry)) ⌝ }
 {
     if words.len() < 9 {
@@ -74,7 +74,7 @@ pub(crate) fn channel_allocation_known(words: &[u64]) -> bool
 }
 
 // The channel allocation of words whose codes are known.
-pub(crate) fn channel_allocation_value(words: &[u64]) -> ChanAllocElement
+pub fn channel_allocation_value(words: &[u64]) -> ChanAllocElement
     requires { ⌜ 9 ≤ length (now words) ⌝ }
     ensures { λ r. ⌜ r ≡ channelAllocationValue (now (words .entry)) ⌝ }
 {

@@ -42,7 +42,7 @@ pub fn status(r: Refusal) -> u64
 }
 
 // Puts the cursor's bit into out: the status of a refused read.
-pub(crate) fn deny(out: &mut [u64], at: usize, r: Refusal) -> u64
+pub fn deny(out: &mut [u64], at: usize, r: Refusal) -> u64
     requires { ⌜ (0 < length (now out)) × (r .bit ≤ 65536) ⌝ }
     ensures { λ n. ⌜ replied n (now (out .exit)) ≡ deniedReply (now (out .entry)) at r ⌝ }
 {
@@ -64,7 +64,7 @@ pub fn moved(out: &mut [u64], m: Moved) -> u64
 }
 
 // A number for a field of type u8: one too large becomes the largest, which a codec refuses.
-pub(crate) fn number8(v: u64) -> u8
+pub fn number8(v: u64) -> u8
     ensures { λ r. ⌜ r ≡ min v 255 ⌝ }
 {
     if v < 255 { v as u8 } else { 255 }

@@ -47,7 +47,7 @@ fn delay_value(kind: u64, count: u8) -> BasicSlotgrantGrantingDelay
 }
 
 // The words of a slot grant.
-pub(crate) fn slotgrant_words(g: BasicSlotgrant) -> [u64; 3]
+pub fn slotgrant_words(g: BasicSlotgrant) -> [u64; 3]
     ensures { λ r. ⌜ r ≡ slotgrantWords g ⌝ }
 {
     let capacity = g.capacity_allocation;
@@ -60,7 +60,7 @@ pub(crate) fn slotgrant_words(g: BasicSlotgrant) -> [u64; 3]
 }
 
 // Whether words are long enough for a slot grant and have no unknown code.
-pub(crate) fn slotgrant_known(words: &[u64]) -> bool
+pub fn slotgrant_known(words: &[u64]) -> bool
     ensures { λ r. ⌜ r ≡ slotgrantKnown (now (words .entry)) ⌝ }
 {
     if words.len() < 3 {
@@ -76,7 +76,7 @@ pub(crate) fn slotgrant_known(words: &[u64]) -> bool
 }
 
 // The slot grant of words whose codes are known.
-pub(crate) fn slotgrant_value(words: &[u64]) -> BasicSlotgrant
+pub fn slotgrant_value(words: &[u64]) -> BasicSlotgrant
     requires { ⌜ 3 ≤ length (now words) ⌝ }
     ensures { λ r. ⌜ r ≡ slotgrantValue (now (words .entry)) ⌝ }
 {
