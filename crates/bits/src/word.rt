@@ -221,17 +221,10 @@ fn put_in_byte(s: &mut [u8], pos: usize, n: usize, v: u64)
 }
 
 // As put_by_bytes, by whole words where there are eight bytes.
-pub fn put_bits(s: &mut [u8], pos: usize, n: usize, v: u64)
-    requires { ⌜ (pos + n ≤ 8 * length (now s)) × (n ≤ 64) × (pos ≤ 65536) × (v < 2 ^ n) ⌝ }
+pub fn put_by_words(s: &mut [u8], pos: usize, n: usize, v: u64)
+    requires { ⌜ (pos + n ≤ 8 * length (now s)) × (n ≤ 64) × (pos ≤ 65536) × (v < 2 ^ n) × (0 < n) ⌝ }
     ensures { λ r. ⌜ now (s .exit) ≡ putBits (now (s .entry)) pos (bitsOfNat n v) ⌝ }
 {
-    if n == 0 {
-        return;
-    }
-    if pos % 8 + n <= 8 {
-        put_in_byte(s, pos, n, v);
-        return;
-    }
     if s.len() < 8 {
         put_by_bytes(s, pos, n, v);
         return;
@@ -243,4 +236,19 @@ pub fn put_bits(s: &mut [u8], pos: usize, n: usize, v: u64)
         return;
     }
     put_in_word(s, at, o, n, v);
+}
+
+// As put_by_words, also of no bits, and sooner done where they lie in one byte.
+pub fn put_bits(s: &mut [u8], pos: usize, n: usize, v: u64)
+    requires { ⌜ (pos + n ≤ 8 * length (now s)) × (n ≤ 64) × (pos ≤ 65536) × (v < 2 ^ n) ⌝ }
+    ensures { λ r. ⌜ now (s .exit) ≡ putBits (now (s .entry)) pos (bitsOfNat n v) ⌝ }
+{
+    if n == 0 {
+        return;
+    }
+    if pos % 8 + n <= 8 {
+        put_in_byte(s, pos, n, v);
+        return;
+    }
+    put_by_words(s, pos, n, v);
 }

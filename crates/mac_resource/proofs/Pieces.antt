@@ -1,4 +1,4 @@
--- Pieces of a header: a row as a piece, and two pieces joined.
+-- Pieces of a header: a row as a piece, two pieces joined, and parts that are refused or are a piece.
 use Prim.Native.Nat.{ℕ, _+_, _*_, _%_, _^_, _≤_, _<_}
 use mathlib.Core.Path.{_≡_, refl, sym, ap, _∙_}
 use mathlib.Core.List.{List, _∷_, _++_}
@@ -8,26 +8,16 @@ use native.Mathlib.Omega.{arith}
 use lib.Arith.{digits-lt}
 use lib.Dec.{lit<}
 use lib.Pow.{pow-add, pow-mono, shl-exact}
-use lib.ListN.{length}
+use lib.ListN.{length, length-append}
 use mir.Syntax.{w64}
 use mir.Val.{Fits}
 use Rattle.bits.specs.Bits.{putBits}
 use Rattle.bits.specs.Laws.Values.{length-bitsOfNat}
 use Rattle.bits.specs.Laws.Writes.{putBits-append}
 use Rattle.codec.specs.Row.{Cell, cell, rowBits, RowIs, join-bits}
-use Rattle.mac_resource.specs.Piece.{pieceBits, Holds}
+use Rattle.mac_resource.specs.Piece.{pieceBits, Holds, Writes}
 use Rattle.mac_resource.specs.declared.piece.Piece.{Piece}
-use Prim.Native.Nat.{ℕ, _+_, _≤_, _<_}
-use mathlib.Core.Path.{_≡_, ap, _∙_}
-use mathlib.Core.List.{List, _∷_, _++_, append-assoc, append-nil}
-use lib.ListN.{length}
-use lib.Dec.{lit<}
-use Rattle.codec.specs.Row.{Cell, cell, rowBits}
-use Rattle.tetra_fields.specs.ChannelAllocation.{channelAllocationBits, channelAllocationLen}
-use Rattle.tetra_fields.specs.declared.fields.channel_allocation.ChanAllocElement.{ChanAllocElement}
-use Rattle.mac_resource.specs.Elements.{allocationBits, flagsBits, elementsBits, allocationLen, flagsLen, elementsLen}
-use Rattle.mac_resource.specs.declared.elements.ChannelAllocation.{ChannelAllocation}
-use Rattle.mac_resource.specs.declared.elements.Elements.{Elements}
+use Rattle.mac_resource.specs.declared.piece.Part.{Part}
 
 -- a number that stands for a row
 pub row-holds : {r : List Cell} {n x : ℕ} → RowIs r n x → Holds (rowBits r) n (record { value = x; bits = n })
@@ -66,16 +56,12 @@ put-behind s p n xs ys l h e f = rw (← putBits-append s p xs ys (omega arith),
 pub piece-size : (p : Piece) → length (pieceBits p) ≡ p .bits
 piece-size p = length-bitsOfNat (p .bits) (p .value)
 
--- the flags, and the channel allocation behind them where there is one
-module _ (e : Elements) where
-  flags-then : elementsBits e ≡ flagsBits e ++ allocationBits (e .«chan_alloc_element»)
-  unfolding elementsBits flagsBits
-  flags-then = simp append-assoc
+pub pieces-size : (p q : Piece) → length (pieceBits p ++ pieceBits q) ≡ p .bits + q .bits
+pieces-size p q = rw (length-append, piece-size p, piece-size q)
 
-  pub flags-alone : e .«chan_alloc_element» ≡ ChannelAllocation.Without → elementsBits e ≡ flagsBits e
-  flags-alone h = flags-then ∙ ap (λ (x : ChannelAllocation). flagsBits e ++ allocationBits x) h ∙ append-nil (flagsBits e)
+pub refused-writes : {j k : ℕ} {xs : List Bool} {p : Part} → (p .number ≡ k) × (p .piece .bits ≡ 0) → k ≡ j → (k ≡ 0 → ⊥) → Writes j xs p
+refused-writes e r h = record { number = e .0 ∙ r; size = omega (arith, e .1); holds = λ z. absurd (h (r ∙ z)) }
 
-  pub flags-and : (a : ChanAllocElement) → e .«chan_alloc_element» ≡ ChannelAllocation.Element a
-      → (elementsBits e ≡ flagsBits e ++ channelAllocationBits a) × (elementsLen e ≡ flagsLen e + channelAllocationLen a)
-  flags-and a h =
-      (flags-then ∙ ap (λ (x : ChannelAllocation). flagsBits e ++ allocationBits x) h, omega (arith, ap allocationLen h))
+pub piece-writes : {j k n : ℕ} {xs : List Bool} {p : Piece} → k ≡ j → n ≤ 50 → Holds xs n p → Writes j xs (record { number = k; piece = p })
+piece-writes {p = p} r l h =
+    record { number = r; size = omega (arith, h .size); holds = λ z. record { is = h .is; size = sym (piece-size p) ∙ ap length (h .is); small = h .small } }

@@ -8,10 +8,13 @@
 --               mac-resource-written-back   the same in bytes
 --               add-told              a header that an add does not refuse is not null, and its fields are not refused
 --               add-same              a header written alone is refused just where an add refuses it
+-- Parts         parts-written         a header that is written in two parts is written as a whole
+--               refused-window        a bad window refuses it; refused-front: and then what refuses its first part
 -- Again         mac-resource-again    what is read, written again, gives the bits that were read
 -- Address, Fixed, Elements            the same of each part
 pub mod Address
 pub mod Fixed
 pub mod Elements
 pub mod MacResource
+pub mod Parts
 pub mod Again

@@ -30,6 +30,8 @@ use Rattle.mac_resource.specs.declared.mac_resource.MacResourceRead.{Mac
 use Rattle.mac_resource.specs.declared.mac_resource.MacResourcePart.{MacResourcePart}
 use Rattle.mac_resource.specs.declared.mac_resource.HeaderLen.{HeaderLen}
 use Rattle.mac_resource.specs.declared.mac_resource.LenAndFill.{LenAndFill}
+use Rattle.mac_resource.specs.declared.piece.Part.{Part}
+use Rattle.mac_resource.specs.Piece.{Writes}
 use Rattle.mac_resource.specs.Address.{typeOf, isNull, isNamed, readAddress, addressLen, wide, addressRefusal, addressRow, normalAddress}
 use Rattle.mac_resource.specs.Fixed.{readFixed, fixedRow}
 use Rattle.mac_resource.specs.Elements.{readElements, elementsRefusal, elementsBits, elementsLen, allocationLenRefusal, normalElements}
@@ -119,6 +121,10 @@ nullRefusal h =
     ∷ []))
     0
 
+-- the fields before the elements in layout order, with the own refusals of length and address in their places
+unfoldable pub frontRefusal : MacResource → ℕ → ℕ → ℕ
+frontRefusal h len address = first (encryptedRefusal h ∷ wide 1 (h .«pos_of_grant») ∷ wide 2 (h .«encryption_mode») ∷ len ∷ address ∷ [])
+
 -- the fields in layout order, with the length's own refusal in its place. "Null elements go unchecked"
 unfoldable pub fieldsRefusal : MacResource → ℕ → ℕ
 fieldsRefusal h len =
@@ -139,6 +145,26 @@ addRefusal h = first (unless (not (isNull (h .addr))) 9 ∷ fieldsRefusal h 0 �
 unfoldable pub macResourceRefusal : MacResource → ℕ
 macResourceRefusal h =
     first (unless (not (eqb (h .«length_ind») 0)) 8 ∷ nullRefusal h ∷ fieldsRefusal h (wide 6 (h .«length_ind»)) ∷ [])
+
+-- the same, of what stands before the elements
+unfoldable pub ownRefusal : MacResource → ℕ
+ownRefusal h =
+    first
+    (unless (not (eqb (h .«length_ind») 0)) 8
+    ∷ nullRefusal h
+    ∷ frontRefusal h (wide 6 (h .«length_ind»)) (addressRefusal (h .addr))
+    ∷ [])
+
+unfoldable pub frontBits : MacResource → ℕ → Bool → List Bool
+frontBits h len fill = rowBits (fixedRow (fixedOf h len fill)) ++ rowBits (addressRow (h .addr))
+
+-- a part that is what stands before the elements, and one that is the elements. "A null header has no elements", and "null elements go
+-- unchecked"
+abbrev pub WritesFront : MacResource → Part → Type 0
+WritesFront h p = Writes (ownRefusal h) (frontBits h (h .«length_ind») (h .«fill_bits»)) p
+
+abbrev pub WritesRest : MacResource → Part → Type 0
+WritesRest h p = Writes (cond (isNull (h .addr)) 0 (elementsRefusal (elementsOf h))) (cond (isNull (h .addr)) [] (elementsBits (elementsOf h))) p
 
 unfoldable pub headerBits : MacResource → ℕ → Bool → List Bool
 headerBits h len fill =

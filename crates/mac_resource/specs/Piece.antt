@@ -1,10 +1,16 @@
--- A piece of a header as a number on its way to being written.
-use Prim.Native.Nat.{ℕ, _^_, _<_}
+-- A piece of a header as a number on its way to being written, and a part of a header that is refused or is a piece.
+use Prim.Native.Nat.{ℕ, _^_, _≤_, _<_}
 use mathlib.Core.Path.{_≡_}
-use mathlib.Core.List.{List}
+use mathlib.Core.List.{List, [], _∷_, _++_}
 use mathlib.Core.Bool.{Bool}
+use lib.ListN.{length}
 use Rattle.bits.specs.Bits.{bitsOfNat}
+use Rattle.tetra_core.specs.Refusal.{first}
+use Rattle.tetra_core.specs.declared.bitbuffer.Cursor.{Cursor}
+use Rattle.tetra_core.specs.declared.bitbuffer.Moved.{Moved}
+use Rattle.codec.specs.Write.{writeAt, writtenAt}
 use Rattle.mac_resource.specs.declared.piece.Piece.{Piece}
+use Rattle.mac_resource.specs.declared.piece.Part.{Part}
 
 abbrev pub pieceBits : Piece → List Bool
 pieceBits p = bitsOfNat (p .bits) (p .value)
@@ -14,3 +20,21 @@ pub record Holds (xs : List Bool) (n : ℕ) (p : Piece) : Type 0 where
   pub is : pieceBits p ≡ xs
   pub size : p .bits ≡ n
   pub small : p .value < 2 ^ p .bits
+
+-- the part is refused by j or, if that is 0, is the bits xs
+pub record Writes (j : ℕ) (xs : List Bool) (p : Part) : Type 0 where
+  pub number : p .number ≡ j
+  pub size : p .piece .bits ≤ 50
+  pub holds : j ≡ 0 → Holds xs (length xs) (p .piece)
+
+-- a part that is not refused is the low bits of a number; in any case they are few
+pub record Sound (p : Part) : Type 0 where
+  pub size : p .piece .bits ≤ 50
+  pub small : p .number ≡ 0 → p .piece .value < 2 ^ p .piece .bits
+
+-- two parts written one after the other, of which the first may refuse the second
+abbrev pub partsWrite : List ℕ → Cursor → Part → Part → Moved
+partsWrite s c a b = writeAt s c (first (a .number ∷ b .number ∷ [])) (pieceBits (a .piece) ++ pieceBits (b .piece))
+
+abbrev pub partsWritten : List ℕ → Cursor → Part → Part → List ℕ
+partsWritten s c a b = writtenAt s c (first (a .number ∷ b .number ∷ [])) (pieceBits (a .piece) ++ pieceBits (b .piece))

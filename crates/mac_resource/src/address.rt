@@ -133,7 +133,7 @@ pub(crate) fn read_address(a: Ahead, t: MacResourceAddrType) -> AddressPart
 }
 
 // The refusal of a number that does not fit below the limit of its field, or 0.
-fn wide_refusal(v: u32, limit: u32) -> u8
+pub(crate) fn wide_refusal(v: u32, limit: u32) -> u8
     ensures { λ r. ⌜ r ≡ unless (ltb v limit) 3 ⌝ }
 {
     if v < limit {
@@ -185,9 +185,9 @@ fn address_word(a: TetraAddress) -> u64
     }
 }
 
+// The same as a piece, of an address that nothing refuses.
 pub(crate) fn address_piece(a: TetraAddress) -> Piece
-    requires { ⌜ addressRefusal a ≡ 0 ⌝ }
-    ensures { λ r. ⌜ Holds (rowBits (addressRow a)) (addressLen (typeOf a)) r ⌝ }
+    ensures { λ r. ⌜ (addressRefusal a ≡ 0 → Holds (rowBits (addressRow a)) (addressLen (typeOf a)) r) ⌝ }
 {
     Piece {
         value: address_word(a),

@@ -1,5 +1,6 @@
 // Clause 21.4.3.1, the optional elements: power control, slot granting and channel allocation, each behind a flag of its own.
 use crate::piece;
+use crate::piece::Part;
 use crate::piece::Piece;
 use codec::Ahead;
 use tetra_core::bitbuffer::Cursor;
@@ -19,8 +20,8 @@ ghost use Rattle.tetra_core.specs.Laws.Windows.{Good};
 ghost use Rattle.codec.specs.Header.{within, Reads};
 ghost use Rattle.codec.specs.Ahead.{Held, NextBits, Ready, ReadsNext};
 ghost use Rattle.codec.specs.Row.{rowBits};
-ghost use Rattle.mac_resource.specs.Piece.{pieceBits, Holds};
-ghost use Rattle.mac_resource.specs.Elements.{noElements, readPower, powerOut, readGranting, grantingOut, readAllocation, allocationOut, readElements, elementsOut, powerRefusal, grantingRefusal, allocationRefusal, elementsRefusal, powerLen, grantingLen, allocationLen, elementsLen, allocationLenRefusal, powerRow, grantingRow, flagRow, flagsBits, flagsLen, elementsBits};
+ghost use Rattle.mac_resource.specs.Piece.{Holds, Writes};
+ghost use Rattle.mac_resource.specs.Elements.{noElements, readPower, powerOut, readGranting, grantingOut, readAllocation, allocationOut, readElements, elementsOut, powerRefusal, grantingRefusal, allocationRefusal, elementsRefusal, powerLen, grantingLen, allocationLen, elementsLen, allocationLenRefusal, powerRow, grantingRow, flagRow, allocationBits, elementsBits};
 
 pub enum PowerControl {
     Without,
@@ -381,7 +382,7 @@ pub(crate) fn allocation_len_refusal(a: ChannelAllocation) -> u8
     }
 }
 
-// The bits of each flag with its element, but for a channel allocation, which may be longer than a word.
+// The bits of each flag with its element.
 fn power_piece(p: PowerControl) -> Piece
     requires { ⌜ powerRefusal p ≡ 0 ⌝ }
     ensures { λ r. ⌜ Holds (rowBits (powerRow p)) (powerLen p) r ⌝ }
@@ -408,19 +409,26 @@ fn granting_piece(g: SlotGranting) -> Piece
     }
 }
 
-fn flag_piece(a: ChannelAllocation) -> Piece
-    ensures { λ r. ⌜ Holds (rowBits (flagRow a)) 1 r ⌝ }
+fn allocation_piece(a: ChannelAllocation) -> Piece
+    requires { ⌜ allocationRefusal a ≡ 0 ⌝ }
+    ensures { λ r. ⌜ Holds (rowBits (flagRow a) ++ allocationBits a) (allocationLen a) r ⌝ }
 {
     match a {
         ChannelAllocation::Without => Piece { value: 0, bits: 1 },
-        ChannelAllocation::Element(_) => Piece { value: 1, bits: 1 },
+        ChannelAllocation::Element(e) => piece::joined(
+            Piece { value: 1, bits: 1 },
+            Piece {
+                value: channel_allocation::channel_allocation_word(e),
+                bits: channel_allocation::allocation_len(e),
+            },
+        ),
     }
 }
 
-// The three flags as one number, with the elements of the first two between them.
-fn flags_piece(e: Elements) -> Piece
+// The three flags with their elements as one number.
+pub(crate) fn elements_piece(e: Elements) -> Piece
     requires { ⌜ elementsRefusal e ≡ 0 ⌝ }
-    ensures { λ r. ⌜ Holds (flagsBits e) (flagsLen e) r ⌝ }
+    ensures { λ r. ⌜ Holds (elementsBits e) (elementsLen e) r ⌝ }
 {
     if is_bare(e) {
         return Piece { value: 0, bits: 3 };
@@ -428,21 +436,30 @@ fn flags_piece(e: Elements) -> Piece
     let power = e.power_control_element;
     let granting = e.slot_granting_element;
     let allocation = e.chan_alloc_element;
-    let behind = piece::joined(granting_piece(granting), flag_piece(allocation));
+    let behind = piece::joined(granting_piece(granting), allocation_piece(allocation));
     piece::joined(power_piece(power), behind)
 }
 
-// Puts a piece, and behind it the three flags with their elements, into s from pos on.
-pub(crate) fn put_elements(s: &mut [u8], pos: usize, front: Piece, e: Elements)
-    requires { ⌜ (front .value < 2 ^ front .bits) × (front .bits ≤ 64) × (pos + (front .bits + elementsLen e) ≤ 8 * length (now s)) × (pos + (front .bits + elementsLen e) ≤ 65536) × (elementsRefusal e ≡ 0) ⌝ }
-    ensures { λ r. ⌜ now (s .exit) ≡ putBits (now (s .entry)) pos (pieceBits front ++ elementsBits e) ⌝ }
+// The elements as a part of a header.
+pub fn elements_part(e: Elements) -> Part
+    ensures { λ r. ⌜ Writes (elementsRefusal e) (elementsBits e) r ⌝ }
 {
-    let flags = flags_piece(e);
-    piece::put_both(s, pos, front, flags);
-    let allocation = e.chan_alloc_element;
-    let ChannelAllocation::Element(a) = allocation else {
-        return;
-    };
-    let n = front.bits + flags.bits;
-    channel_allocation::put_channel_allocation(s, pos + n, a);
+    let number = elements_refusal(e);
+    if number != 0 {
+        return piece::refused(number);
+    }
+    Part {
+        number,
+        piece: elements_piece(e),
+    }
+}
+
+// The part of a header without elements: three flags that are not set.
+pub fn bare_part() -> Part
+    ensures { λ r. ⌜ Writes (elementsRefusal noElements) (elementsBits noElements) r ⌝ }
+{
+    Part {
+        number: refusal::NONE,
+        piece: Piece { value: 0, bits: 3 },
+    }
 }

@@ -9,22 +9,21 @@ use crate::enums::mac_resource_addr_type as addr_type;
 use crate::fixed;
 use crate::fixed::Fixed;
 use crate::piece;
+use crate::piece::Part;
 use crate::piece::Piece;
-use bits::word;
 use codec::Ahead;
 use tetra_core::address::TetraAddress;
 use tetra_core::bitbuffer;
 use tetra_core::bitbuffer::Cursor;
 use tetra_core::bitbuffer::Moved;
-use tetra_core::bitbuffer::Outcome;
 use tetra_core::quantity;
 use tetra_core::quantity::Bits;
 use tetra_core::quantity::OctetCount;
 use tetra_core::quantity::Octets;
 use tetra_core::refusal;
 use tetra_core::refusal::Refusal;
-ghost use mathlib.Core.List.{_++_};
 ghost use mathlib.Core.Path.{_≡_};
+ghost use mathlib.Core.Bool.{true, false};
 ghost use Prim.Native.Nat.{_+_, _*_, _≤_, _<_};
 ghost use lib.ListN.{length};
 ghost use Rattle.bits.specs.Bits.{putBits};
@@ -34,8 +33,8 @@ ghost use Rattle.codec.specs.Ahead.{Held, Ready};
 ghost use Rattle.codec.specs.Row.{rowBits};
 ghost use Rattle.mac_resource.specs.Piece.{Holds};
 ghost use Rattle.mac_resource.specs.Address.{typeOf, isNull, addressLen, addressRow};
-ghost use Rattle.mac_resource.specs.Fixed.{fixedRow};
-ghost use Rattle.mac_resource.specs.MacResource.{nullOf, nullPdu, fixedOf, elementsOf, headerOf, readMacResource, macResourceOut, macResourceAt, encryptedRefusal, nullRefusal, fieldsRefusal, addRefusal, macResourceRefusal, headerBits, headerLen, lengthRefusal, computeHeaderLen, updateLenAndFillInd, macResourceWrite, macResourceWritten};
+ghost use Rattle.mac_resource.specs.Fixed.{FixedFits};
+ghost use Rattle.mac_resource.specs.MacResource.{nullOf, nullPdu, fixedOf, elementsOf, headerOf, readMacResource, macResourceOut, macResourceAt, encryptedRefusal, nullRefusal, frontRefusal, addRefusal, frontBits, WritesFront, headerBits, headerLen, lengthRefusal, computeHeaderLen, updateLenAndFillInd, macResourceWrite, macResourceWritten};
 
 // Marks in the place of a length: a fragment starts here; the second half slot is stolen too.
 pub const MAC_RESOURCE_LENGTH_FRAG_START: u8 = 63;
@@ -283,9 +282,9 @@ fn null_refusal(h: MacResource) -> u8
     0
 }
 
-// Why the fields of a header are not written, or 0, where the length is itself refused by length or by 0.
-fn fields_refusal(h: MacResource, length: u8) -> u8
-    ensures { λ r. ⌜ r ≡ fieldsRefusal h length ⌝ }
+// Why the fields before the elements are not written, or 0. The length and the address are themselves refused by a number or by 0.
+fn front_refusal(h: MacResource, length: u8, address: u8) -> u8
+    ensures { λ r. ⌜ r ≡ frontRefusal h length address ⌝ }
 {
     let number = encrypted_refusal(h);
     if number != 0 {
@@ -300,15 +299,7 @@ fn fields_refusal(h: MacResource, length: u8) -> u8
     if length != 0 {
         return length;
     }
-    let a = h.addr;
-    let number = address::address_refusal(a);
-    if number != 0 {
-        return number;
-    }
-    if address::is_null(a) {
-        return 0;
-    }
-    elements::elements_refusal(elements_of(h))
+    address
 }
 
 // Why a header is not added to a block, or 0. The block's writer sets length and fill, so they are not looked at.
@@ -318,24 +309,12 @@ pub fn add_refusal(h: MacResource) -> u8
     if is_null_pdu(h) {
         return refusal::NULL_PDU;
     }
-    fields_refusal(h, 0)
-}
-
-// Why a header is not written, or 0.
-pub fn mac_resource_refusal(h: MacResource) -> u8
-    ensures { λ r. ⌜ r ≡ macResourceRefusal h ⌝ }
-{
-    if h.length_ind == 0 {
-        return refusal::LENGTH;
-    }
-    let number = null_refusal(h);
+    let a = h.addr;
+    let number = front_refusal(h, 0, address::address_refusal(a));
     if number != 0 {
         return number;
     }
-    if 63 < h.length_ind {
-        return fields_refusal(h, refusal::VALUE_TOO_WIDE);
-    }
-    fields_refusal(h, 0)
+    elements::elements_refusal(elements_of(h))
 }
 
 // The bits that a header takes up, in the augmented direction too.
@@ -391,47 +370,79 @@ pub fn update_len_and_fill_ind(h: MacResource, sdu_len: usize) -> LenAndFill
 }
 
 // The first 16 bits and the address as one number.
-fn front_piece(h: MacResource, length_ind: u8, fill_bits: bool) -> Piece
-    requires { ⌜ (fieldsRefusal h 0 ≡ 0) × («length_ind» < 64) ⌝ }
-    ensures { λ r. ⌜ Holds (rowBits (fixedRow (fixedOf h «length_ind» «fill_bits»)) ++ rowBits (addressRow (h .addr))) (16 + addressLen (typeOf (h .addr))) r ⌝ }
+fn front_piece(h: MacResource, length_ind: u8, fill_bits: bool, address: Piece) -> Piece
+    requires { ⌜ FixedFits (fixedOf h «length_ind» «fill_bits») × Holds (rowBits (addressRow (h .addr))) (addressLen (typeOf (h .addr))) address ⌝ }
+    ensures { λ r. ⌜ Holds (frontBits h «length_ind» «fill_bits») (16 + addressLen (typeOf (h .addr))) r ⌝ }
 {
-    let a = h.addr;
     piece::joined(
         fixed::fixed_piece(fixed_of(h, length_ind, fill_bits)),
-        address::address_piece(a),
+        address,
     )
 }
 
 // Puts a header with a length and a fill flag into s from pos on.
 pub fn put_mac_resource(s: &mut [u8], pos: usize, h: MacResource, length_ind: u8, fill_bits: bool)
-    requires { ⌜ (pos + headerLen h ≤ 8 * length (now s)) × (pos + headerLen h ≤ 65536) × (fieldsRefusal h 0 ≡ 0) × («length_ind» < 64) ⌝ }
+    requires { ⌜ (pos + headerLen h ≤ 8 * length (now s)) × (pos + headerLen h ≤ 65536) × (addRefusal h ≡ 0) × («length_ind» < 64) ⌝ }
     ensures { λ r. ⌜ now (s .exit) ≡ putBits (now (s .entry)) pos (headerBits h «length_ind» «fill_bits») ⌝ }
 {
-    let front = front_piece(h, length_ind, fill_bits);
-    if is_null_pdu(h) {
-        word::put_bits(s, pos, front.bits, front.value);
-        return;
+    let a = h.addr;
+    let front = front_piece(h, length_ind, fill_bits, address::address_piece(a));
+    piece::put_both(s, pos, front, elements::elements_piece(elements_of(h)));
+}
+
+// The first 16 bits of a null header: nothing but its length is not 0.
+pub fn null_part(h: MacResource) -> Part
+    requires { ⌜ isNull (h .addr) ≡ true ⌝ }
+    ensures { λ r. ⌜ WritesFront h r ⌝ }
+{
+    if h.length_ind == 0 {
+        return piece::refused(refusal::LENGTH);
     }
-    elements::put_elements(s, pos, front, elements_of(h));
+    let number = null_refusal(h);
+    if number != 0 {
+        return piece::refused(number);
+    }
+    if 63 < h.length_ind {
+        return piece::refused(refusal::VALUE_TOO_WIDE);
+    }
+    Part {
+        number: refusal::NONE,
+        piece: Piece {
+            value: h.length_ind as u64 * 8,
+            bits: 16,
+        },
+    }
+}
+
+// The first 16 bits and the address of any other header.
+pub fn front_part(h: MacResource) -> Part
+    requires { ⌜ isNull (h .addr) ≡ false ⌝ }
+    ensures { λ r. ⌜ WritesFront h r ⌝ }
+{
+    let a = h.addr;
+    // All that depends on the kind of the address stands together, so that the compiler asks for it once.
+    let address = address::address_piece(a);
+    let no_address = address::address_refusal(a);
+    if h.length_ind == 0 {
+        return piece::refused(refusal::LENGTH);
+    }
+    let no_length = address::wide_refusal(h.length_ind as u32, 64);
+    let number = front_refusal(h, no_length, no_address);
+    if number != 0 {
+        return piece::refused(number);
+    }
+    Part {
+        number,
+        piece: front_piece(h, h.length_ind, h.fill_bits, address),
+    }
 }
 
 // Writes a header at the cursor.
 pub fn to_bitbuf(s: &mut [u8], c: Cursor, h: MacResource) -> Moved
     ensures { λ r. ⌜ (r ≡ macResourceWrite (now (s .entry)) c h) × (now (s .exit) ≡ macResourceWritten (now (s .entry)) c h) ⌝ }
 {
-    let value = mac_resource_refusal(h);
-    let size = header_len(h);
-    let number = codec::write_refusal(s.len(), c, value, size);
-    if number != 0 {
-        return Moved {
-            cursor: c,
-            answer: Outcome::Refused(number),
-        };
+    if is_null_pdu(h) {
+        return piece::write_parts(s, c, null_part(h), piece::nothing());
     }
-    let pos = c.pos;
-    put_mac_resource(s, pos, h, h.length_ind, h.fill_bits);
-    Moved {
-        cursor: codec::moved_by(c, size),
-        answer: Outcome::Done,
-    }
+    piece::write_parts(s, c, front_part(h), elements::elements_part(elements_of(h)))
 }

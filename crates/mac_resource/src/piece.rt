@@ -1,11 +1,17 @@
 // Bits on their way to being written: several parts of a header become one number, and one write.
 use bits::word;
-ghost use mathlib.Core.List.{_++_};
+use tetra_core::bitbuffer;
+use tetra_core::bitbuffer::Cursor;
+use tetra_core::bitbuffer::Moved;
+use tetra_core::refusal;
+ghost use mathlib.Core.List.{[], _∷_, _++_};
 ghost use mathlib.Core.Path.{_≡_};
 ghost use Prim.Native.Nat.{_+_, _*_, _^_, _≤_, _<_};
 ghost use lib.ListN.{length};
 ghost use Rattle.bits.specs.Bits.{putBits};
-ghost use Rattle.mac_resource.specs.Piece.{pieceBits, Holds};
+ghost use Rattle.tetra_core.specs.Refusal.{first};
+ghost use Rattle.tetra_core.specs.BitBuffer.{bytesAfter};
+ghost use Rattle.mac_resource.specs.Piece.{pieceBits, Holds, Writes, Sound, partsWrite, partsWritten};
 
 // The low bits of a number.
 pub struct Piece {
@@ -28,18 +34,79 @@ pub(crate) fn joined(a: Piece, b: Piece) -> Piece
     }
 }
 
+// A part of a header that is to be written: why it is not, or 0, and its bits.
+pub struct Part {
+    pub number: u8,
+    pub piece: Piece,
+}
+
+// What else a refused part holds is not looked at.
+pub(crate) fn refused(number: u8) -> Part
+    ensures { λ r. ⌜ (r .number ≡ number) × (r .piece .bits ≡ 0) ⌝ }
+{
+    Part {
+        number,
+        piece: Piece { value: 0, bits: 0 },
+    }
+}
+
+// A part without bits.
+pub fn nothing() -> Part
+    ensures { λ r. ⌜ Writes 0 [] r ⌝ }
+{
+    Part {
+        number: refusal::NONE,
+        piece: Piece { value: 0, bits: 0 },
+    }
+}
+
 // Puts two pieces into s from pos on, one after the other: by one write where a word holds both.
 pub(crate) fn put_both(s: &mut [u8], pos: usize, a: Piece, b: Piece)
-    requires { ⌜ (a .value < 2 ^ a .bits) × (b .value < 2 ^ b .bits) × (a .bits ≤ 64) × (b .bits ≤ 64) × (pos + (a .bits + b .bits) ≤ 8 * length (now s)) × (pos + (a .bits + b .bits) ≤ 65536) ⌝ }
+    requires { ⌜ (a .value < 2 ^ a .bits) × (b .value < 2 ^ b .bits) × (0 < a .bits) × (a .bits ≤ 50) × (b .bits ≤ 50) × (pos + (a .bits + b .bits) ≤ 8 * length (now s)) × (pos + (a .bits + b .bits) ≤ 65536) ⌝ }
     ensures { λ r. ⌜ now (s .exit) ≡ putBits (now (s .entry)) pos (pieceBits a ++ pieceBits b) ⌝ }
 {
     let n = a.bits;
     let m = b.bits;
     if n + m < 64 {
         let both = joined(a, b);
-        word::put_bits(s, pos, both.bits, both.value);
+        word::put_by_words(s, pos, both.bits, both.value);
         return;
     }
-    word::put_bits(s, pos, n, a.value);
-    word::put_bits(s, pos + n, m, b.value);
+    word::put_by_words(s, pos, n, a.value);
+    word::put_by_words(s, pos + n, m, b.value);
+}
+
+// The same, unless a number other than 0 refuses it.
+fn put_unless(s: &mut [u8], pos: usize, number: u8, a: Piece, b: Piece)
+    requires { ⌜ (number ≡ 0 → (a .value < 2 ^ a .bits) × (b .value < 2 ^ b .bits) × (0 < a .bits) × (a .bits ≤ 50) × (b .bits ≤ 50) × (pos + (a .bits + b .bits) ≤ 8 * length (now s)) × (pos + (a .bits + b .bits) ≤ 65536)) ⌝ }
+    ensures { λ r. ⌜ now (s .exit) ≡ bytesAfter number (now (s .entry)) (putBits (now (s .entry)) pos (pieceBits a ++ pieceBits b)) ⌝ }
+{
+    if number != 0 {
+        return;
+    }
+    put_both(s, pos, a, b);
+}
+
+fn first_of(m: u8, n: u8) -> u8
+    ensures { λ r. ⌜ r ≡ first (m ∷ n ∷ []) ⌝ }
+{
+    if m != 0 {
+        return m;
+    }
+    n
+}
+
+// Writes the two parts of a header at the cursor.
+pub fn write_parts(s: &mut [u8], c: Cursor, a: Part, b: Part) -> Moved
+    requires { ⌜ Sound a × Sound b × (a .number ≡ 0 → 0 < a .piece .bits) ⌝ }
+    ensures { λ r. ⌜ (r ≡ partsWrite (now (s .entry)) c a b) × (now (s .exit) ≡ partsWritten (now (s .entry)) c a b) ⌝ }
+{
+    let p = a.piece;
+    let q = b.piece;
+    let value = first_of(a.number, b.number);
+    let size = p.bits + q.bits;
+    let number = codec::write_refusal(s.len(), c, value, size);
+    let pos = c.pos;
+    put_unless(s, pos, number, p, q);
+    bitbuffer::moved_unless(c, number, size)
 }

@@ -1,7 +1,7 @@
 -- The order of refusals as a list: the first number that is not 0 is the call's, and 0 says that nothing is refused.
 use Prim.Native.Nat.{ℕ, zero, suc}
 use mathlib.Core.Path.{_≡_, refl}
-use mathlib.Core.List.{List, [], _∷_}
+use mathlib.Core.List.{List, [], _∷_, _++_}
 use mathlib.Core.Bool.{Bool, true, false}
 use native.Mathlib.Omega.{arith}
 
@@ -41,6 +41,20 @@ pub first-last : (n : ℕ) → first (n ∷ []) ≡ n
 unfolding first
 first-last zero = refl
 first-last (suc n) = refl
+
+-- the entries of a list in two parts
+pub first-parts : (ms ns : List ℕ) → first (ms ++ ns) ≡ first (first ms ∷ ns)
+unfolding first
+first-parts [] ns = refl
+first-parts (zero ∷ ms) ns = first-parts ms ns
+first-parts (suc m ∷ ms) ns = refl
+
+-- entries that are a list's own answer
+pub first-behind : (ms ns : List ℕ) → first (ms ++ (first ns ∷ [])) ≡ first (ms ++ ns)
+unfolding first
+first-behind [] ns = first-last (first ns)
+first-behind (zero ∷ ms) ns = first-behind ms ns
+first-behind (suc m ∷ ms) ns = refl
 
 -- a test that refuses nothing holds
 pub passed : (b : Bool) (n : ℕ) → unless b (suc n) ≡ 0 → b ≡ true

@@ -142,7 +142,7 @@ fn moved_to(c: Cursor, p: usize) -> Cursor
 }
 
 // The cursor n bits on, or where it was if a number other than 0 refuses the call.
-fn moved_unless(c: Cursor, number: u8, n: usize) -> Moved
+pub fn moved_unless(c: Cursor, number: u8, n: usize) -> Moved
     requires { ⌜ (number ≡ 0 → c .pos + n ≤ 65536) ⌝ }
     ensures { λ r. ⌜ r ≡ moves number c (moved c n) ⌝ }
 {

@@ -67,14 +67,18 @@ pub(crate) fn uplink_value(addr_type: u64, kind: u64, number: u64) -> UplinkAddr
 pub fn address_known(addr_type: u64, kind: u64) -> bool
     ensures { λ r. ⌜ r ≡ addressKnown «addr_type» kind ⌝ }
 {
+    // so a record with a good kind is not asked which types have one
+    if kind < 3 {
+        return addr_type < 8;
+    }
     match addr_type {
         0 => true,
-        1 => kind < 3,
+        1 => false,
         2 => true,
         3 => true,
         4 => true,
-        5 => kind < 3,
-        6 => kind < 3,
+        5 => false,
+        6 => false,
         7 => true,
         _ => false,
     }
@@ -84,17 +88,22 @@ pub fn address_known(addr_type: u64, kind: u64) -> bool
 pub fn address_value(addr_type: u64, kind: u64, a: u64, b: u64) -> TetraAddress
     ensures { λ r. ⌜ r ≡ addressValue «addr_type» kind a b ⌝ }
 {
-    let ssi = ssi_of_kind(kind);
-    let v = record::number32(a);
-    let l = record::number16(b);
     match addr_type {
         0 => TetraAddress::NullPdu,
-        1 => TetraAddress::Ssi(ssi, v),
+        1 => TetraAddress::Ssi(ssi_of_kind(kind), record::number32(a)),
         2 => TetraAddress::EventLabel(record::number16(a)),
-        3 => TetraAddress::Ussi(v),
-        4 => TetraAddress::Smi(v),
-        5 => TetraAddress::SsiAndEventLabel(ssi, v, l),
-        6 => TetraAddress::SsiAndUsageMarker(ssi, v, record::number8(b)),
-        _ => TetraAddress::SmiAndEventLabel(v, l),
+        3 => TetraAddress::Ussi(record::number32(a)),
+        4 => TetraAddress::Smi(record::number32(a)),
+        5 => TetraAddress::SsiAndEventLabel(
+            ssi_of_kind(kind),
+            record::number32(a),
+            record::number16(b),
+        ),
+        6 => TetraAddress::SsiAndUsageMarker(
+            ssi_of_kind(kind),
+            record::number32(a),
+            record::number8(b),
+        ),
+        _ => TetraAddress::SmiAndEventLabel(record::number32(a), record::number16(b)),
     }
 }

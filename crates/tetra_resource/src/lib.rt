@@ -2,24 +2,37 @@
 // kind, first and second number; whether there is a power control, power control; whether there is a slot grant, its 3 words; whether there
 // is a channel allocation, its 9 words. What there is not is read as 0 and not looked at when written. A library apart from tetra_mac: there
 // the readers and writers of an element have a caller more, and the compiler would not put them here.
+use mac_resource::elements;
 use mac_resource::elements::ChannelAllocation;
+use mac_resource::elements::Elements;
 use mac_resource::elements::PowerControl;
 use mac_resource::elements::SlotGranting;
+use mac_resource::mac_resource as resource;
 use mac_resource::mac_resource::HeaderLen;
 use mac_resource::mac_resource::LenAndFill;
 use mac_resource::mac_resource::MacResource;
 use mac_resource::mac_resource::MacResourceAnswer;
+use mac_resource::piece;
+use mac_resource::piece::Part;
 use tetra_core::address::TetraAddress;
+use tetra_core::bitbuffer;
 use tetra_core::bitbuffer::Cursor;
+use tetra_core::bitbuffer::Moved;
+use tetra_core::bitbuffer::Outcome;
+use tetra_core::refusal;
 use tetra_mac::address;
 use tetra_mac::channel_allocation;
 use tetra_mac::record;
 use tetra_mac::slotgrant;
 ghost use mathlib.Core.List.{_∷_};
 ghost use mathlib.Core.Path.{_≡_};
+ghost use mathlib.Core.Bool.{true};
 ghost use Prim.Native.Nat.{_≤_};
 ghost use lib.ListN.{length};
 ghost use lib.Seq.{sets};
+ghost use Rattle.tetra_core.specs.declared.bitbuffer.Outcome.the-variants.{Refused};
+ghost use Rattle.mac_resource.specs.Elements.{noElements};
+ghost use Rattle.mac_resource.specs.MacResource.{elementsOf, WritesFront, WritesRest};
 ghost use Rattle.tetra_mac.specs.Reply.{replied, wrote, window, putFirst, givenReply};
 ghost use Rattle.tetra_resource.specs.MacResource.{fixedWords, addressWords, powerWords, frontWords, grantingWords, allocationWords, macResourceWords, powerValue, grantingKnown, grantingValue, allocationKnown, allocationValue, frontValue, addressOfWords, powerOfWords, assembled, macResourceKnown, macResourceValue, macResourceReadReply, macResourceWriteReply, headerLenReply, updateLenReply};
 
@@ -262,6 +275,76 @@ pub fn mac_resource_value(words: &[u64]) -> MacResource
     )
 }
 
+// To write, a header is taken from the words in two parts, and a null header or one without elements by itself: so what is made of a word is
+// spent before the next words are read, and no header is put together.
+
+// The header of an address that has no elements.
+fn bare(f: Front, addr: TetraAddress) -> MacResource
+    ensures { λ r. ⌜ r ≡ assembled f addr PowerControl.Without SlotGranting.Without ChannelAllocation.Without ⌝ }
+{
+    assembled(
+        f,
+        addr,
+        PowerControl::Without,
+        SlotGranting::Without,
+        ChannelAllocation::Without,
+    )
+}
+
+// What stands before the elements of the words' header.
+fn front_of(words: &[u64]) -> Part
+    requires { ⌜ 25 ≤ length (now words) ⌝ }
+    ensures { λ r. ⌜ WritesFront (macResourceValue (now (words .entry))) r ⌝ }
+{
+    if words[5] == 0 {
+        return resource::null_part(bare(front_value(words), TetraAddress::NullPdu));
+    }
+    resource::front_part(bare(front_value(words), address_of(words)))
+}
+
+fn has_no_element(words: &[u64]) -> bool
+    requires { ⌜ 25 ≤ length (now words) ⌝ }
+    ensures { λ r. ⌜ (r ≡ true → elementsOf (macResourceValue (now (words .entry))) ≡ noElements) ⌝ }
+{
+    if words[9] != 0 {
+        return false;
+    }
+    if words[11] != 0 {
+        return false;
+    }
+    words[15] == 0
+}
+
+// The elements of the words' header.
+fn rest_of(words: &[u64]) -> Part
+    requires { ⌜ 25 ≤ length (now words) ⌝ }
+    ensures { λ r. ⌜ WritesRest (macResourceValue (now (words .entry))) r ⌝ }
+{
+    if words[5] == 0 {
+        return piece::nothing();
+    }
+    if has_no_element(words) {
+        return elements::bare_part();
+    }
+    let power_control_element = power_of(words);
+    let slot_granting_element = granting_value(&words[11..15]);
+    let chan_alloc_element = allocation_value(&words[15..25]);
+    elements::elements_part(Elements {
+        power_control_element,
+        slot_granting_element,
+        chan_alloc_element,
+    })
+}
+
+fn refused(c: Cursor, number: u8) -> Moved
+    ensures { λ r. ⌜ r ≡ record { cursor = c; answer = Refused number } ⌝ }
+{
+    Moved {
+        cursor: c,
+        answer: Outcome::Refused(number),
+    }
+}
+
 #[no_mangle]
 pub extern "C" fn tetra_mac_resource_read(
     s: &[u8],
@@ -275,7 +358,7 @@ pub extern "C" fn tetra_mac_resource_read(
     if out.len() < 26 {
         return record::MALFORMED;
     }
-    let done = mac_resource::mac_resource::from_bitbuf(s, Cursor { start, pos, end });
+    let done = resource::from_bitbuf(s, Cursor { start, pos, end });
     let at = done.cursor.pos;
     let answer = done.answer;
     match answer {
@@ -301,15 +384,16 @@ pub extern "C" fn tetra_mac_resource_write(
     if !mac_resource_known(words) {
         return record::MALFORMED;
     }
-    // As in mac_resource_value. Each part is small, so that the compiler puts it here and no header goes through memory.
-    let h = assembled(
-        front_value(words),
-        address_of(words),
-        power_of(words),
-        granting_value(&words[11..15]),
-        allocation_value(&words[15..25]),
-    );
-    let done = mac_resource::mac_resource::to_bitbuf(s, Cursor { start, pos, end }, h);
+    let c = Cursor { start, pos, end };
+    // As soon as it is known: a header that is refused is not asked for its elements.
+    if !bitbuffer::good_window(s.len(), c) {
+        return record::moved(out, refused(c, refusal::BAD_WINDOW));
+    }
+    let front = front_of(words);
+    if front.number != 0 {
+        return record::moved(out, refused(c, front.number));
+    }
+    let done = piece::write_parts(s, c, front, rest_of(words));
     record::moved(out, done)
 }
 
@@ -325,7 +409,7 @@ pub extern "C" fn tetra_mac_resource_header_len(words: &[u64], out: &mut [u64]) 
         return record::MALFORMED;
     }
     let h = mac_resource_value(words);
-    match mac_resource::mac_resource::compute_header_len(h) {
+    match resource::compute_header_len(h) {
         HeaderLen::Len(n) => {
             out[0] = n.0 as u64;
             0
@@ -350,7 +434,7 @@ pub extern "C" fn tetra_mac_resource_update_len(
         return record::MALFORMED;
     }
     let h = mac_resource_value(words);
-    match mac_resource::mac_resource::update_len_and_fill_ind(h, sdu_len) {
+    match resource::update_len_and_fill_ind(h, sdu_len) {
         LenAndFill::Counted(octets, fill, flag) => {
             out[0] = octets.0 as u64;
             out[1] = codec::bit(flag);

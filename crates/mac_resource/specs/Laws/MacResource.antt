@@ -1,16 +1,16 @@
 -- The whole header: what is known where nothing refuses it, how long it is, what its first 16 bits say, and what was written is read back.
 use Prim.Native.Nat.{ℕ, zero, suc, _+_, _≤_, _<_}
-use mathlib.Core.Path.{_≡_, refl, _∙_}
+use mathlib.Core.Path.{_≡_, refl, sym, _∙_}
 use mathlib.Core.List.{List, [], _∷_, _++_, append-assoc}
 use mathlib.Core.Bool.{Bool, true, false, cond, not}
 use native.Mathlib.Omega.{arith}
 use native.Mathlib.Nat.{zero-add}
 use lib.ListN.{length, length-append}
 use lib.Dec.{eqb}
-use borrow.Author.Tests.{eqb-false, not-true, ne-eqb, lt-ltb}
+use borrow.Author.Tests.{eqb-true, eqb-false, not-true, eq-eqb, ne-eqb, lt-ltb}
 use Rattle.tetra_core.specs.BitBuffer.{moved}
 use Rattle.tetra_core.specs.Address.{addressType}
-use Rattle.tetra_core.specs.Refusal.{unless, first, first-none, passed}
+use Rattle.tetra_core.specs.Refusal.{unless, first, first-none, first-skip, first-here, first-last, first-parts, first-behind, passed}
 use Rattle.tetra_core.specs.declared.address.TetraAddress.{TetraAddress}
 use Rattle.tetra_core.specs.declared.address.TetraAddress.the-variants as Address'
 use Rattle.tetra_core.specs.declared.bitbuffer.Cursor.{Cursor}
@@ -21,7 +21,7 @@ use Rattle.codec.specs.Back.{written-back}
 use Rattle.mac_resource.specs.Address.{addrTypeNumber, typeOf, isNull, addressLen, wide, addressRefusal, addressRow, normalAddress}
 use Rattle.mac_resource.specs.Fixed.{FixedFits, fixedRow}
 use Rattle.mac_resource.specs.Elements.{readElements, elementsRefusal, elementsBits, elementsLen, normalElements}
-use Rattle.mac_resource.specs.MacResource.{headerOf, nullOf, readMacResource, macResourceAt, fixedOf, elementsOf, encryptedRefusal, nullRefusal, fieldsRefusal, addRefusal, macResourceRefusal, headerBits, headerLen, macResourceWritten, normalMacResource}
+use Rattle.mac_resource.specs.MacResource.{headerOf, nullOf, readMacResource, macResourceAt, fixedOf, elementsOf, encryptedRefusal, nullRefusal, frontRefusal, fieldsRefusal, addRefusal, ownRefusal, macResourceRefusal, frontBits, headerBits, headerLen, macResourceWritten, normalMacResource}
 use Rattle.mac_resource.specs.Laws.Address.{narrow, address-size, null-is, address-some, address-most, address-back, normal-null}
 use Rattle.mac_resource.specs.Laws.Fixed.{fixed-back, Front, fixed-front}
 use Rattle.mac_resource.specs.Laws.Elements.{elements-length, elements-bounds, elements-back}
@@ -30,24 +30,105 @@ use Rattle.mac_resource.specs.declared.mac_resource.MacResourceAnswer.{M
 
 -- ---- what is known where nothing refuses it
 
-pub record FieldsTold (h : MacResource) (len : ℕ) : Type 0 where
+first-over : (j : ℕ) (ns : List ℕ) → first (j ∷ 0 ∷ ns) ≡ first (j ∷ ns)
+unfolding first
+first-over zero ns = refl
+first-over (suc j) ns = refl
+
+pub record FrontTold (h : MacResource) (j k : ℕ) : Type 0 where
   pub encrypted : encryptedRefusal h ≡ 0
   pub position : h .«pos_of_grant» < 2
   pub encryption : h .«encryption_mode» < 4
-  pub length : len ≡ 0
-  pub address : addressRefusal (h .addr) ≡ 0
-  pub elements : cond (isNull (h .addr)) 0 (elementsRefusal (elementsOf h)) ≡ 0
+  pub length : j ≡ 0
+  pub address : k ≡ 0
 
-pub fields-told : (h : MacResource) (len : ℕ) → fieldsRefusal h len ≡ 0 → FieldsTold h len
-unfolding fieldsRefusal
-fields-told h len e =
+pub front-told : (h : MacResource) (len address : ℕ) → frontRefusal h len address ≡ 0 → FrontTold h len address
+unfolding frontRefusal
+front-told h len address e =
     let a = first-none (encryptedRefusal h) _ e in
     let b = first-none (wide 1 (h .«pos_of_grant»)) _ (a .1) in
     let c = first-none (wide 2 (h .«encryption_mode»)) _ (b .1) in
     let d = first-none len _ (c .1) in
-    let f = first-none (addressRefusal (h .addr)) _ (d .1) in
-    let g = first-none (cond (isNull (h .addr)) 0 (elementsRefusal (elementsOf h))) _ (f .1) in
-    record { encrypted = a .0; position = narrow 1 _ (b .0); encryption = narrow 2 _ (c .0); length = d .0; address = f .0; elements = g .0 }
+    record { encrypted = a .0; position = narrow 1 _ (b .0); encryption = narrow 2 _ (c .0); length = d .0; address = first-none address _ (d .1) .0 }
+
+-- the elements are refused behind all other fields
+pub fields-apart : (h : MacResource) (len : ℕ)
+    → fieldsRefusal h len ≡ first (frontRefusal h len (addressRefusal (h .addr)) ∷ cond (isNull (h .addr)) 0 (elementsRefusal (elementsOf h)) ∷ [])
+unfolding fieldsRefusal frontRefusal
+fields-apart h len =
+    first-parts
+    (encryptedRefusal h ∷ wide 1 (h .«pos_of_grant») ∷ wide 2 (h .«encryption_mode») ∷ len ∷ addressRefusal (h .addr) ∷ [])
+    (cond (isNull (h .addr)) 0 (elementsRefusal (elementsOf h)) ∷ [])
+
+pub own-apart : (h : MacResource) → macResourceRefusal h ≡ first (ownRefusal h ∷ cond (isNull (h .addr)) 0 (elementsRefusal (elementsOf h)) ∷ [])
+unfolding macResourceRefusal ownRefusal
+own-apart h =
+    let n = unless (not (eqb (h .«length_ind») 0)) 8 in
+    let f = frontRefusal h (wide 6 (h .«length_ind»)) (addressRefusal (h .addr)) in
+    let r = cond (isNull (h .addr)) 0 (elementsRefusal (elementsOf h)) in
+    rw (fields-apart h (wide 6 (h .«length_ind»))) (first-behind (n ∷ nullRefusal h ∷ []) (f ∷ r ∷ []) ∙ first-parts (n ∷ nullRefusal h ∷ f ∷ []) (r ∷ []))
+
+pub add-apart : (h : MacResource) → isNull (h .addr) ≡ false
+    → addRefusal h ≡ first (frontRefusal h 0 (addressRefusal (h .addr)) ∷ elementsRefusal (elementsOf h) ∷ [])
+unfolding addRefusal
+add-apart h n = rw (n, first-skip 0 _ refl, first-last, fields-apart h 0, n)
+
+-- one entry after the other
+pub own-at-length : (h : MacResource) → h .«length_ind» ≡ 0 → 8 ≡ ownRefusal h
+unfolding ownRefusal first
+own-at-length h e = rw (eq-eqb _ 0 e)
+
+pub own-at-null : (h : MacResource) → (h .«length_ind» ≡ 0 → ⊥) → (nullRefusal h ≡ 0 → ⊥) → nullRefusal h ≡ ownRefusal h
+unfolding ownRefusal
+own-at-null h l n = rw (ne-eqb _ 0 l, first-skip 0 _ refl, first-here _ _ n)
+
+pub own-behind : (h : MacResource) → (h .«length_ind» ≡ 0 → ⊥) → nullRefusal h ≡ 0
+    → frontRefusal h (wide 6 (h .«length_ind»)) (addressRefusal (h .addr)) ≡ ownRefusal h
+unfolding ownRefusal
+own-behind h l n = rw (ne-eqb _ 0 l, first-skip 0 _ refl, first-skip _ _ n, first-last)
+
+-- only a null header is refused as one
+pub null-none : (h : MacResource) → isNull (h .addr) ≡ false → nullRefusal h ≡ 0
+unfolding nullRefusal
+null-none h n = rw n
+
+-- a null header that nothing refuses for its fields has them all 0
+pub record NullTold (h : MacResource) : Type 0 where
+  pub address : h .addr ≡ Address'.NullPdu
+  pub fill : h .«fill_bits» ≡ false
+  pub position : h .«pos_of_grant» ≡ 0
+  pub encryption : h .«encryption_mode» ≡ 0
+  pub random : h .«random_access_flag» ≡ false
+
+pub null-told : (h : MacResource) → isNull (h .addr) ≡ true → nullRefusal h ≡ 0 → NullTold h
+unfolding nullRefusal
+null-told h n e =
+    let a = first-none (unless (not (h .«fill_bits»)) 9) _ (rw n at e) in
+    let b = first-none (unless (eqb (h .«pos_of_grant») 0) 9) _ (a .1) in
+    let c = first-none (unless (eqb (h .«encryption_mode») 0) 9) _ (b .1) in
+    let d = first-none (unless (not (h .«random_access_flag»)) 9) _ (c .1) in
+    record {
+      address = null-is (h .addr) n;
+      fill = not-true _ (passed _ 8 (a .0));
+      position = eqb-true _ 0 (passed _ 8 (b .0));
+      encryption = eqb-true _ 0 (passed _ 8 (c .0));
+      random = not-true _ (passed _ 8 (d .0));
+    }
+
+pub own-of-null : (h : MacResource) → isNull (h .addr) ≡ true → (h .«length_ind» ≡ 0 → ⊥) → nullRefusal h ≡ 0 → wide 6 (h .«length_ind») ≡ ownRefusal h
+unfolding frontRefusal encryptedRefusal
+own-of-null h n l e =
+    let t = null-told h n e in
+    rw (← own-behind h l e, t .address, t .position, t .encryption, first-skip 0 _ refl, first-skip 0 _ refl, first-skip 0 _ refl, first-over, first-last)
+
+pub record FieldsTold (h : MacResource) (len : ℕ) : Type 0 where
+  pub front : FrontTold h len (addressRefusal (h .addr))
+  pub elements : cond (isNull (h .addr)) 0 (elementsRefusal (elementsOf h)) ≡ 0
+
+pub fields-told : (h : MacResource) (len : ℕ) → fieldsRefusal h len ≡ 0 → FieldsTold h len
+fields-told h len e =
+    let a = first-none (frontRefusal h len (addressRefusal (h .addr))) _ (sym (fields-apart h len) ∙ e) in
+    record { front = front-told h len _ (a .0); elements = first-none (cond (isNull (h .addr)) 0 (elementsRefusal (elementsOf h))) _ (a .1) .0 }
 
 pub record Told (h : MacResource) : Type 0 where
   pub some : h .«length_ind» ≡ 0 → ⊥
@@ -61,7 +142,7 @@ told h e =
     let a = first-none (unless (not (eqb (h .«length_ind») 0)) 8) _ e in
     let b = first-none (nullRefusal h) _ (a .1) in
     let c = first-none (fieldsRefusal h (wide 6 (h .«length_ind»))) _ (b .1) in
-    let l = fields-told h _ (c .0) .length in
+    let l = fields-told h _ (c .0) .front .length in
     record {
       some = eqb-false _ 0 (not-true _ (passed _ 7 (a .0)));
       small = narrow 6 _ l;
@@ -81,11 +162,6 @@ add-told h e =
     let a = first-none (unless (not (isNull (h .addr))) 9) _ e in
     (not-true _ (passed _ 8 (a .0)), first-none (fieldsRefusal h 0) _ (a .1) .0)
 
-first-over : (j : ℕ) (ns : List ℕ) → first (j ∷ 0 ∷ ns) ≡ first (j ∷ ns)
-unfolding first
-first-over zero ns = refl
-first-over (suc j) ns = refl
-
 -- a header that is not null, with a length of 6 bits, is refused for a length of 0 and then as its fields are
 pub refused-as : (h : MacResource) → isNull (h .addr) ≡ false → h .«length_ind» < 64
     → macResourceRefusal h ≡ first (unless (not (eqb (h .«length_ind») 0)) 8 ∷ fieldsRefusal h 0 ∷ [])
@@ -98,9 +174,19 @@ unfolding addRefusal
 add-same h n z l = rw (refused-as h n l, n, ne-eqb _ 0 z)
 
 pub fixed-of-fits : (h : MacResource) (len : ℕ) (fill : Bool) → fieldsRefusal h 0 ≡ 0 → len < 64 → FixedFits (fixedOf h len fill)
-fixed-of-fits h len fill e l = let t = fields-told h 0 e in record { position = t .position; encryption = t .encryption; len = l }
+fixed-of-fits h len fill e l = let t = fields-told h 0 e .front in record { position = t .position; encryption = t .encryption; len = l }
+
+-- what stands before the elements, and the elements
+pub header-apart : (h : MacResource) (len : ℕ) (fill : Bool)
+    → headerBits h len fill ≡ frontBits h len fill ++ cond (isNull (h .addr)) [] (elementsBits (elementsOf h))
+unfolding headerBits frontBits
+header-apart h len fill = rw append-assoc
 
 -- ---- the length
+
+pub front-length : (h : MacResource) (len : ℕ) (fill : Bool) → 16 ≤ length (frontBits h len fill)
+unfolding frontBits fixedRow
+front-length h len fill = rw (length-append, length-row (fixedRow (fixedOf h len fill))) (omega arith)
 
 pub header-length : (h : MacResource) (len : ℕ) (fill : Bool) → length (headerBits h len fill) ≡ headerLen h
 unfolding headerBits headerLen fixedRow
@@ -180,7 +266,7 @@ module _ (h : MacResource) (len : ℕ) (fill : Bool) (e : fieldsRefusal h 0 ≡ 
         fixed-back (fixedOf h len fill) (fixed-of-fits h len fill e l) _ o,
         append-assoc,
         run-bind,
-        address-back (h .addr) (fields-told h 0 e .address) _ (o + 16),
+        address-back (h .addr) (fields-told h 0 e .front .address) _ (o + 16),
         normal-null (h .addr),
       )
 

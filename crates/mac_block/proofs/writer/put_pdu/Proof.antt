@@ -8,7 +8,7 @@ use lib.ListN.{length}
 use Rattle.bits.specs.Bits.{putBits}
 use Rattle.bits.specs.Laws.Reads.{length-bitsAt}
 use Rattle.mac_resource.specs.MacResource.{headerBits, headerLen}
-use Rattle.mac_resource.specs.Laws.MacResource.{add-told, header-length}
+use Rattle.mac_resource.specs.Laws.MacResource.{header-length}
 use Rattle.mac_block.specs.Writer.{flagOf, fillBits, addBits}
 use Rattle.mac_block.proofs.Lists.{length-fill}
 use Rattle.mac_block.proofs.Puts.{flag-is, length-part, put-part, put-three}
@@ -20,7 +20,7 @@ put-mac-resource-requires c κs =
     let o = c .before .before .before in
     let a = o .args in
     let l = length-part (now (a .block)) (a .bit / 8) in
-    (omega arith, omega arith, add-told (a .header) (o .pre .1 .fine) .1, o .pre .1 .length)
+    (omega arith, omega arith, o .pre .1 .fine, o .pre .1 .length)
 
 -- the header is in its place
 header : (c : tie.After-block)

@@ -7,10 +7,10 @@ use Rattle.mac_resource.proofs.address.address_piece.Statement.{stateme
 use Rattle.mac_resource.proofs.address.address_piece.Tie as tie
 
 returns : tie.Need-returns
-returns c =
+returns c z =
     let a = c .before .before .before .args .a in
     rw (c .before .before .address-word .ensures, c .address-len .ensures .0, c .before .addr-type .ensures, ← address-size a)
-    (row-holds (row-is (addressRow a) (address-fits a (c .before .before .before .pre))))
+    (row-holds (row-is (addressRow a) (address-fits a z)))
 
 pub address-piece-spec : {M : Type 1} → statement M
 address-piece-spec =

@@ -1,61 +1,57 @@
 use borrow.Author.Needs.{needs}
-use mathlib.Core.List.{append-assoc, append-nil}
-use mathlib.Core.Path.{sym, ap, _∙_}
-use Prim.Native.Nat.{_+_}
+use mathlib.Core.Path.{ap, _∙_}
 use native.Mathlib.Omega.{arith}
-use Rattle.mac_resource.specs.Address.{typeOf, addressLen}
-use Rattle.mac_resource.specs.Elements.{elementsRefusal, elementsLen}
-use Rattle.mac_resource.specs.MacResource.{headerBits}
-use Rattle.mac_resource.specs.declared.elements.Elements.{Elements}
+use Rattle.mac_resource.specs.Address.{typeOf}
+use Rattle.mac_resource.specs.Elements.{elementsRefusal, elementsBits, elementsLen}
+use Rattle.mac_resource.specs.MacResource.{elementsOf}
 use Rattle.mac_resource.specs.Laws.Address.{address-most}
-use Rattle.mac_resource.specs.Laws.MacResource.{fields-told, header-least, header-whole}
+use Rattle.mac_resource.specs.Laws.Elements.{elements-bounds}
+use Rattle.mac_resource.specs.Laws.MacResource.{fields-told, add-told, fixed-of-fits, header-whole, header-apart}
 use Rattle.mac_resource.proofs.mac_resource.put_mac_resource.Statement.{statement}
 use Rattle.mac_resource.proofs.mac_resource.put_mac_resource.Tie as tie
 
-put-bits-requires : tie.Need-put-bits-requires
-put-bits-requires c κs =
-    let f = c .before .before .before .front-piece .ensures in
+front-piece-requires : tie.Need-front-piece-requires
+front-piece-requires c κs =
+    let d = c .before .before in
+    let t = add-told (d .args .h) (d .pre .2) .1 in
+    (fixed-of-fits (d .args .h) (d .args .length-ind) (d .args .fill-bits) t (d .pre .3), c .address-piece .ensures (fields-told (d .args .h) 0 t .front .address))
+
+elements-piece-requires : tie.Need-elements-piece-requires
+elements-piece-requires c κs =
     let d = c .before .before .before .before .before in
-    let l = header-least (d .args .h) in
-    (omega arith, omega (arith, address-most (typeOf (d .args .h .addr))), omega arith, f .small)
+    let t = add-told (d .args .h) (d .pre .2) in
+    ap elementsRefusal (c .elements-of .ensures) ∙ (rw (t .0) at (fields-told (d .args .h) 0 (t .1) .elements))
+
+put-both-requires : tie.Need-put-both-requires
+put-both-requires c κs =
+    let e = c .elements-piece .ensures in
+    let x = c .before .elements-of .ensures in
+    let f = c .before .before .before .front-piece .ensures in
+    let d = c .before .before .before .before .before .before in
+    let w = header-whole (d .args .h) (add-told (d .args .h) (d .pre .2) .0) in
+    let m = address-most (typeOf (d .args .h .addr)) in
+    let l = e .size ∙ ap elementsLen x in
+    let b = elements-bounds (elementsOf (d .args .h)) .1 in
+    let n = f .size in
+    (f .small, e .small, omega arith, omega arith, omega arith, omega arith, omega arith)
 
 returns : tie.Need-returns
-unfolding headerBits
 returns c =
     let p = c .before .before in
-    let t = p .before .before in
-    let n = t .before in
-    rw (← append-assoc, sym (n .is-null-pdu .ensures) ∙ t .if1 .taken, append-nil, ← n .before .front-piece .ensures .is) (p .put-bits .ensures)
-
-put-elements-requires : tie.Need-put-elements-requires
-put-elements-requires c κs =
-    let e = c .elements-of .ensures in
-    let n = c .before .before in
-    let f = n .before .before .front-piece .ensures in
-    let d = n .before .before .before .before in
-    let z = sym (n .before .is-null-pdu .ensures) ∙ n .if1 .left in
-    let s = header-whole (d .args .h) z ∙ ap (λ (x : Elements). 16 + addressLen (typeOf (d .args .h .addr)) + elementsLen x) (sym e) in
-    let m = address-most (typeOf (d .args .h .addr)) in
-    (f .small, omega arith, omega arith, omega arith, ap elementsRefusal e ∙ (rw z at (fields-told (d .args .h) 0 (d .pre .2) .elements)))
-
-returns-2 : tie.Need-returns-2
-unfolding headerBits
-returns-2 c =
-    let v = c .before .before in
-    let n = v .before .before .before in
-    rw (← append-assoc, sym (n .before .is-null-pdu .ensures) ∙ n .if1 .left, ← n .before .before .front-piece .ensures .is)
-    (rw (v .before .elements-of .ensures) at (v .put-elements .ensures))
+    let e = p .before in
+    let x = e .before .elements-of .ensures in
+    let f = e .before .before .before .front-piece .ensures in
+    let d = e .before .before .before .before .before .before in
+    rw (header-apart (d .args .h) _ _, add-told (d .args .h) (d .pre .2) .0, ← f .is, ← ap elementsBits x, ← e .elements-piece .ensures .is) (p .put-both .ensures)
 
 pub put-mac-resource-spec : {M : Type 1} → statement M
 put-mac-resource-spec =
     tie.close
     (tie.spec
     (λ c κs. search needs)
+    front-piece-requires
     (λ c κs. search needs)
-    put-bits-requires
+    elements-piece-requires
+    put-both-requires
     (λ c. search needs)
-    returns
-    (λ c κs. search needs)
-    put-elements-requires
-    (λ c. search needs)
-    returns-2)
+    returns)

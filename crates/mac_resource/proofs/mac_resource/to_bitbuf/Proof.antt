@@ -1,42 +1,40 @@
 use borrow.Author.Needs.{needs}
 use mathlib.Core.Path.{sym, _∙_}
-use native.Mathlib.Omega.{arith}
-use Rattle.codec.specs.Write.{free, write-refused, write-done}
-use Rattle.mac_resource.specs.Laws.MacResource.{told, header-length}
+use Rattle.mac_resource.specs.Laws.Parts.{sound, front-some, rest-none, rest-some, parts-written}
 use Rattle.mac_resource.proofs.mac_resource.to_bitbuf.Statement.{statement}
 use Rattle.mac_resource.proofs.mac_resource.to_bitbuf.Tie as tie
 
+write-parts-requires : tie.Need-write-parts-requires
+write-parts-requires c κs =
+    let f = c .before .null-part .ensures in
+    (sound f, sound (c .nothing .ensures), front-some _ f)
+
 returns : tie.Need-returns
 returns c =
-    let w = c .before in
-    let h = w .before in
-    let n = h .header-len .ensures .0 in
-    write-refused _ _ _ (header-length _ _ _ ∙ sym n) (h .before .mac-resource-refusal .ensures) (w .write-refusal .ensures) (c .if1 .taken)
-
-put-mac-resource-requires : tie.Need-put-mac-resource-requires
-put-mac-resource-requires c κs =
     let w = c .before .before in
-    let h = w .before in
-    let n = h .header-len .ensures .0 in
-    let f = free _ _ _ _ (sym (w .write-refusal .ensures) ∙ c .before .if1 .left) in
-    let g = f .good in
-    let t = told _ (sym (h .before .mac-resource-refusal .ensures) ∙ f .value) in
-    (omega arith, omega arith, t .fields, t .small)
+    let n = w .before in
+    let f = n .before in
+    let t = f .before .before in
+    let z = sym (t .before .is-null-pdu .ensures) ∙ t .if1 .taken in
+    let h = t .before .before .before .args .h in
+    let p = parts-written _ _ h (f .null-part .ensures) (rest-none h z (n .nothing .ensures)) in
+    (w .write-parts .ensures .0 ∙ p .0, w .write-parts .ensures .1 ∙ p .1)
 
-moved-by-requires : tie.Need-moved-by-requires
-moved-by-requires c κs =
-    let e = c .before .before .before .before in
-    free _ _ _ _ (sym (e .before .write-refusal .ensures) ∙ e .if1 .left) .room
+write-parts-requires-2 : tie.Need-write-parts-requires-2
+write-parts-requires-2 c κs =
+    let f = c .before .before .front-part .ensures in
+    (sound f, sound (c .elements-part .ensures), front-some _ f)
 
 returns-2 : tie.Need-returns-2
 returns-2 c =
-    let p = c .before .before .before in
-    let e = p .before .before in
-    let w = e .before in
-    let h = w .before in
-    let n = h .header-len .ensures .0 in
-    rw (c .moved-by .ensures)
-    (write-done _ _ _ (header-length _ _ _ ∙ sym n) (h .before .mac-resource-refusal .ensures) (w .write-refusal .ensures) (e .if1 .left) (p .put-mac-resource .ensures))
+    let w = c .before .before in
+    let e = w .before in
+    let f = e .before .before in
+    let t = f .before .before in
+    let z = sym (t .before .is-null-pdu .ensures) ∙ t .if1 .left in
+    let h = t .before .before .before .args .h in
+    let p = parts-written _ _ h (f .front-part .ensures) (rest-some h z (rw (e .before .elements-of .ensures) at (e .elements-part .ensures))) in
+    (w .write-parts2 .ensures .0 ∙ p .0, w .write-parts2 .ensures .1 ∙ p .1)
 
 pub to-bitbuf-spec : {M : Type 1} → statement M
 to-bitbuf-spec =
@@ -45,8 +43,12 @@ to-bitbuf-spec =
     (λ c κs. search needs)
     (λ c κs. search needs)
     (λ c κs. search needs)
+    write-parts-requires
+    (λ c. search needs)
     returns
-    put-mac-resource-requires
-    moved-by-requires
+    (λ c κs. search needs)
+    (λ c κs. search needs)
+    (λ c κs. search needs)
+    write-parts-requires-2
     (λ c. search needs)
     returns-2)

@@ -12,33 +12,33 @@ joined-requires : tie.Need-joined-requires
 joined-requires c κs = let d = c .before .before .pre in
     (d .0, d .1, omega arith)
 
-put-bits-requires : tie.Need-put-bits-requires
-put-bits-requires c κs =
+put-by-words-requires : tie.Need-put-by-words-requires
+put-by-words-requires c κs =
     let j = c .before .joined .ensures in
     let d = c .before .before .before .before .pre in
-    (omega arith, omega arith, omega arith, j .small)
+    (omega arith, omega arith, omega arith, j .small, omega arith)
 
 returns : tie.Need-returns
 returns c = let p = c .before .before in
-    rw (← p .before .before .joined .ensures .is) (p .put-bits .ensures)
+    rw (← p .before .before .joined .ensures .is) (p .put-by-words .ensures)
 
-put-bits-requires-2 : tie.Need-put-bits-requires-2
-put-bits-requires-2 c κs = let d = c .before .before .before .pre in
-    (omega arith, d .2, omega arith, d .0)
+put-by-words-requires-2 : tie.Need-put-by-words-requires-2
+put-by-words-requires-2 c κs = let d = c .before .before .before .pre in
+    (omega arith, omega arith, omega arith, d .0, d .2)
 
-put-bits-requires-3 : tie.Need-put-bits-requires-3
-put-bits-requires-3 c κs =
+put-by-words-requires-3 : tie.Need-put-by-words-requires-3
+put-by-words-requires-3 c κs =
     let p = c .before .before .before in
     let d = p .before .before .before .before .pre in
-    let l = ap length (p .put-bits2 .ensures) ∙ length-putBits _ _ _ in
-    (omega arith, d .3, omega arith, d .1)
+    let l = ap length (p .put-by-words2 .ensures) ∙ length-putBits _ _ _ in
+    (omega arith, omega arith, omega arith, d .1, omega arith)
 
 returns-2 : tie.Need-returns-2
 returns-2 c =
     let q = c .before .before in
     let p = q .before .before .before .before in
     let d = p .before .before .before .before in
-    put-behind _ _ _ (pieceBits (d .args .a)) (pieceBits (d .args .b)) (piece-size (d .args .a)) (omega arith) (p .put-bits2 .ensures) (q .put-bits3 .ensures)
+    put-behind _ _ _ (pieceBits (d .args .a)) (pieceBits (d .args .b)) (piece-size (d .args .a)) (omega arith) (p .put-by-words2 .ensures) (q .put-by-words3 .ensures)
 
 pub put-both-spec : {M : Type 1} → statement M
 put-both-spec =
@@ -46,11 +46,11 @@ put-both-spec =
     (tie.spec
     (λ c. search needs)
     joined-requires
-    put-bits-requires
+    put-by-words-requires
     (λ c. search needs)
     returns
-    put-bits-requires-2
+    put-by-words-requires-2
     (λ c. search needs)
-    put-bits-requires-3
+    put-by-words-requires-3
     (λ c. search needs)
     returns-2)
