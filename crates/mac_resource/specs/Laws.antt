@@ -11,6 +11,7 @@
 -- Parts         parts-written         a header that is written in two parts is written as a whole
 --               refused-window        a bad window refuses it; refused-front: and then what refuses its first part
 -- Again         mac-resource-again    what is read, written again, gives the bits that were read
+--               null-read             a null header that was read has nothing but its length
 -- Address, Fixed, Elements            the same of each part
 pub mod Address
 pub mod Fixed

@@ -32,7 +32,7 @@ ghost use lib.ListN.{length};
 ghost use lib.Seq.{sets};
 ghost use Rattle.tetra_core.specs.declared.bitbuffer.Outcome.the-variants.{Refused};
 ghost use Rattle.mac_resource.specs.Elements.{noElements};
-ghost use Rattle.mac_resource.specs.MacResource.{elementsOf, WritesFront, WritesRest};
+ghost use Rattle.mac_resource.specs.MacResource.{nullOf, elementsOf, WritesFront, WritesRest};
 ghost use Rattle.tetra_mac.specs.Reply.{replied, wrote, window, putFirst, givenReply};
 ghost use Rattle.tetra_resource.specs.MacResource.{fixedWords, addressWords, powerWords, frontWords, grantingWords, allocationWords, macResourceWords, powerValue, grantingKnown, grantingValue, allocationKnown, allocationValue, frontValue, addressOfWords, powerOfWords, assembled, macResourceKnown, macResourceValue, macResourceReadReply, macResourceWriteReply, headerLenReply, updateLenReply};
 
@@ -134,6 +134,18 @@ pub fn give_mac_resource(out: &mut [u64], at: usize, h: MacResource) -> u64
     put_front(out, at, h);
     put_granting(out, g);
     put_allocation(out, a);
+    0
+}
+
+// The same of a null PDU that was read: all but its length is 0.
+fn give_null(out: &mut [u64], at: usize, length_ind: u8) -> u64
+    requires { ⌜ 26 ≤ length (now out) ⌝ }
+    ensures { λ r. ⌜ replied r (now (out .exit)) ≡ givenReply (now (out .entry)) at (macResourceWords (nullOf «length_ind»)) ⌝ }
+{
+    let first = [at as u64, 0, 0, 0, 0, length_ind as u64];
+    let rest = [0u64; 20];
+    record::put_words(out, 0, &first);
+    record::put_words(out, 6, &rest);
     0
 }
 
@@ -362,7 +374,12 @@ pub extern "C" fn tetra_mac_resource_read(
     let at = done.cursor.pos;
     let answer = done.answer;
     match answer {
-        MacResourceAnswer::Read(h) => give_mac_resource(out, at, h),
+        MacResourceAnswer::Read(h) => {
+            if resource::is_null_pdu(h) {
+                return give_null(out, at, h.length_ind);
+            }
+            give_mac_resource(out, at, h)
+        }
         MacResourceAnswer::Refused(r) => record::deny(out, at, r),
     }
 }
