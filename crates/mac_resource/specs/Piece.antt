@@ -1,5 +1,5 @@
 -- A piece of a header as a number on its way to being written, and a part of a header that is refused or is a piece.
-use Prim.Native.Nat.{ℕ, _^_, _≤_, _<_}
+use Prim.Native.Nat.{ℕ, _+_, _*_, _^_, _≤_, _<_}
 use mathlib.Core.Path.{_≡_}
 use mathlib.Core.List.{List, [], _∷_, _++_}
 use mathlib.Core.Bool.{Bool}
@@ -20,6 +20,16 @@ pub record Holds (xs : List Bool) (n : ℕ) (p : Piece) : Type 0 where
   pub is : pieceBits p ≡ xs
   pub size : p .bits ≡ n
   pub small : p .value < 2 ^ p .bits
+
+-- two pieces, the first with some bits, that may be put from the bit p on into so many bytes, one after the other
+pub record Puttable (bytes p : ℕ) (a b : Piece) : Type 0 where
+  pub first : a .value < 2 ^ a .bits
+  pub second : b .value < 2 ^ b .bits
+  pub some : 0 < a .bits
+  pub fewFirst : a .bits ≤ 50
+  pub fewSecond : b .bits ≤ 50
+  pub room : p + (a .bits + b .bits) ≤ 8 * bytes
+  pub near : p + (a .bits + b .bits) ≤ 65536
 
 -- the part is refused by j or, if that is 0, is the bits xs
 pub record Writes (j : ℕ) (xs : List Bool) (p : Part) : Type 0 where

@@ -6,12 +6,12 @@ use tetra_core::bitbuffer::Moved;
 use tetra_core::refusal;
 ghost use mathlib.Core.List.{[], _∷_, _++_};
 ghost use mathlib.Core.Path.{_≡_};
-ghost use Prim.Native.Nat.{_+_, _*_, _^_, _≤_, _<_};
+ghost use Prim.Native.Nat.{_+_, _^_, _≤_, _<_};
 ghost use lib.ListN.{length};
 ghost use Rattle.bits.specs.Bits.{putBits};
 ghost use Rattle.tetra_core.specs.Refusal.{first};
 ghost use Rattle.tetra_core.specs.BitBuffer.{bytesAfter};
-ghost use Rattle.mac_resource.specs.Piece.{pieceBits, Holds, Writes, Sound, partsWrite, partsWritten};
+ghost use Rattle.mac_resource.specs.Piece.{pieceBits, Holds, Puttable, Writes, Sound, partsWrite, partsWritten};
 
 // The low bits of a number.
 pub struct Piece {
@@ -62,7 +62,7 @@ pub fn nothing() -> Part
 
 // Puts two pieces into s from pos on, one after the other: by one write where a word holds both.
 pub(crate) fn put_both(s: &mut [u8], pos: usize, a: Piece, b: Piece)
-    requires { ⌜ (a .value < 2 ^ a .bits) × (b .value < 2 ^ b .bits) × (0 < a .bits) × (a .bits ≤ 50) × (b .bits ≤ 50) × (pos + (a .bits + b .bits) ≤ 8 * length (now s)) × (pos + (a .bits + b .bits) ≤ 65536) ⌝ }
+    requires { ⌜ Puttable (length (now s)) pos a b ⌝ }
     ensures { λ r. ⌜ now (s .exit) ≡ putBits (now (s .entry)) pos (pieceBits a ++ pieceBits b) ⌝ }
 {
     let n = a.bits;
@@ -78,7 +78,7 @@ pub(crate) fn put_both(s: &mut [u8], pos: usize, a: Piece, b: Piece)
 
 // The same, unless a number other than 0 refuses it.
 fn put_unless(s: &mut [u8], pos: usize, number: u8, a: Piece, b: Piece)
-    requires { ⌜ (number ≡ 0 → (a .value < 2 ^ a .bits) × (b .value < 2 ^ b .bits) × (0 < a .bits) × (a .bits ≤ 50) × (b .bits ≤ 50) × (pos + (a .bits + b .bits) ≤ 8 * length (now s)) × (pos + (a .bits + b .bits) ≤ 65536)) ⌝ }
+    requires { ⌜ (number ≡ 0 → Puttable (length (now s)) pos a b) ⌝ }
     ensures { λ r. ⌜ now (s .exit) ≡ bytesAfter number (now (s .entry)) (putBits (now (s .entry)) pos (pieceBits a ++ pieceBits b)) ⌝ }
 {
     if number != 0 {

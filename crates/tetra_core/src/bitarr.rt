@@ -12,7 +12,7 @@ ghost use Rattle.tetra_core.specs.Quantity.{octetsOf, fillOf};
 ghost use Rattle.tetra_core.specs.BitBuffer.{areBits};
 
 // The n bits of s from pos on, put into buf from its bit 0 on, and zeros behind them up to the end of the last byte.
-pub fn copy_octets(buf: &mut [u8], s: &[u8], pos: usize, n: usize)
+pub(crate) fn copy_octets(buf: &mut [u8], s: &[u8], pos: usize, n: usize)
     requires { ⌜ (pos + n ≤ 8 * length (now s)) × (octetsOf n ≤ length (now buf)) × (pos + n ≤ 65536) ⌝ }
     ensures { λ r. ⌜ now (buf .exit) ≡ putBits (now (buf .entry)) 0 (bitsAt (now (s .entry)) pos n ++ replicate (fillOf n) false) ⌝ }
 {
@@ -33,7 +33,7 @@ fn spread(buf: &mut [u8], at: usize, k: usize, x: u64)
 }
 
 // The bits of s from pos on, one to each byte of buf.
-pub fn spread_all(buf: &mut [u8], s: &[u8], pos: usize)
+pub(crate) fn spread_all(buf: &mut [u8], s: &[u8], pos: usize)
     requires { ⌜ (pos + length (now buf) ≤ 8 * length (now s)) × (pos + length (now buf) ≤ 65536) ⌝ }
     ensures { λ r. ⌜ now (buf .exit) ≡ map digit (bitsAt (now (s .entry)) pos (length (now (buf .entry)))) ⌝ }
 {
@@ -77,7 +77,7 @@ fn gather(buf: &[u8], at: usize, k: usize) -> u64
 }
 
 // The low bits of the bytes of buf, put into s from pos on.
-pub fn gather_all(s: &mut [u8], pos: usize, buf: &[u8])
+pub(crate) fn gather_all(s: &mut [u8], pos: usize, buf: &[u8])
     requires { ⌜ (pos + length (now buf) ≤ 8 * length (now s)) × (pos + length (now buf) ≤ 65536) ⌝ }
     ensures { λ r. ⌜ now (s .exit) ≡ putBits (now (s .entry)) pos (map odd (now (buf .entry))) ⌝ }
 {

@@ -138,7 +138,7 @@ pub fn slotgrant_word(g: BasicSlotgrant) -> u64
 }
 
 // Puts a slot grant into s from pos on.
-pub fn put_slotgrant(s: &mut [u8], pos: usize, g: BasicSlotgrant)
+fn put_slotgrant(s: &mut [u8], pos: usize, g: BasicSlotgrant)
     requires { ⌜ (pos + 8 ≤ 8 * length (now s)) × (pos ≤ 65536) × (slotgrantRefusal g ≡ 0) ⌝ }
     ensures { λ r. ⌜ now (s .exit) ≡ putBits (now (s .entry)) pos (rowBits (slotgrantRow g)) ⌝ }
 {

@@ -375,7 +375,7 @@ pub fn channel_allocation_word(e: ChanAllocElement) -> u64
 }
 
 // Puts a channel allocation into s from pos on.
-pub fn put_channel_allocation(s: &mut [u8], pos: usize, e: ChanAllocElement)
+fn put_channel_allocation(s: &mut [u8], pos: usize, e: ChanAllocElement)
     requires { ⌜ (pos + channelAllocationLen e ≤ 8 * length (now s)) × (pos ≤ 65536) × (channelAllocationRefusal e ≡ 0) ⌝ }
     ensures { λ r. ⌜ now (s .exit) ≡ putBits (now (s .entry)) pos (channelAllocationBits e) ⌝ }
 {

@@ -39,7 +39,7 @@ fn uplink_of(kind: u64, v: u64) -> UplinkAddress
 }
 
 // The address of this type at the offset o of a header.
-pub fn read_uplink_address(s: &[u8], c: Cursor, o: usize, kind: u64) -> UplinkAddressPart
+pub(crate) fn read_uplink_address(s: &[u8], c: Cursor, o: usize, kind: u64) -> UplinkAddressPart
     requires { ⌜ Good (length (now s)) c ⌝ }
     ensures { λ r. ⌜ Reads uplinkAddressOut (readUplinkAddress kind) (within (now (s .entry)) c) o r ⌝ }
 {

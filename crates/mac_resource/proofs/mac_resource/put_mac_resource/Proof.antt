@@ -33,7 +33,15 @@ put-both-requires c κs =
     let l = e .size ∙ ap elementsLen x in
     let b = elements-bounds (elementsOf (d .args .h)) .1 in
     let n = f .size in
-    (f .small, e .small, omega arith, omega arith, omega arith, omega arith, omega arith)
+    record {
+      first = f .small;
+      second = e .small;
+      some = omega arith;
+      fewFirst = omega arith;
+      fewSecond = omega arith;
+      room = omega arith;
+      near = omega arith;
+    }
 
 returns : tie.Need-returns
 returns c =

@@ -10,7 +10,7 @@ use Rattle.mac_resource.proofs.piece.put_both.Tie as tie
 
 joined-requires : tie.Need-joined-requires
 joined-requires c κs = let d = c .before .before .pre in
-    (d .0, d .1, omega arith)
+    (d .first, d .second, omega arith)
 
 put-by-words-requires : tie.Need-put-by-words-requires
 put-by-words-requires c κs =
@@ -24,20 +24,21 @@ returns c = let p = c .before .before in
 
 put-by-words-requires-2 : tie.Need-put-by-words-requires-2
 put-by-words-requires-2 c κs = let d = c .before .before .before .pre in
-    (omega arith, omega arith, omega arith, d .0, d .2)
+    (omega arith, omega arith, omega arith, d .first, d .some)
 
 put-by-words-requires-3 : tie.Need-put-by-words-requires-3
 put-by-words-requires-3 c κs =
     let p = c .before .before .before in
     let d = p .before .before .before .before .pre in
     let l = ap length (p .put-by-words2 .ensures) ∙ length-putBits _ _ _ in
-    (omega arith, omega arith, omega arith, d .1, omega arith)
+    (omega arith, omega arith, omega arith, d .second, omega arith)
 
 returns-2 : tie.Need-returns-2
 returns-2 c =
     let q = c .before .before in
     let p = q .before .before .before .before in
     let d = p .before .before .before .before in
+    let e = d .pre in
     put-behind _ _ _ (pieceBits (d .args .a)) (pieceBits (d .args .b)) (piece-size (d .args .a)) (omega arith) (p .put-by-words2 .ensures) (q .put-by-words3 .ensures)
 
 pub put-both-spec : {M : Type 1} → statement M

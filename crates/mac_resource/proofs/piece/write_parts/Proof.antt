@@ -16,7 +16,15 @@ put-unless-requires c κs z =
     let d = v .before .before .before .before in
     let m = first-none (d .args .a .number) _ (sym (v .first-of .ensures) ∙ f .value) in
     let n = first-none (d .args .b .number) _ (m .1) in
-    (d .pre .0 .small (m .0), d .pre .1 .small (n .0), d .pre .2 (m .0), d .pre .0 .size, d .pre .1 .size, omega arith, omega arith)
+    record {
+      first = d .pre .0 .small (m .0);
+      second = d .pre .1 .small (n .0);
+      some = d .pre .2 (m .0);
+      fewFirst = d .pre .0 .size;
+      fewSecond = d .pre .1 .size;
+      room = omega arith;
+      near = omega arith;
+    }
 
 moved-unless-requires : tie.Need-moved-unless-requires
 moved-unless-requires c κs z =
