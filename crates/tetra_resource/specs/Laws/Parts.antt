@@ -1,8 +1,8 @@
 -- The header of words in the two parts that it is written in.
 use Prim.Native.Nat.{ℕ, zero, suc, _<_}
 use mathlib.Core.Path.{_≡_, refl, ap, _∙_}
-use mathlib.Core.List.{List, [], _∷_}
-use mathlib.Core.Bool.{Bool, true, false}
+use mathlib.Core.List.{List}
+use mathlib.Core.Bool.{false}
 use native.Mathlib.Nat.{add-zero}
 use lib.Dec.{lit<}
 use lib.ListN.{drop, getD}

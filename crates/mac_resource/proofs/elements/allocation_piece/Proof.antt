@@ -3,7 +3,6 @@ use mathlib.Core.List.{[], _∷_, append-nil}
 use native.Mathlib.Omega.{arith}
 use lib.Dec.{lit<}
 use Rattle.codec.specs.Row.{cell, row-is}
-use Rattle.tetra_fields.specs.Laws.ChannelAllocation.{channel-allocation-len}
 use Rattle.mac_resource.proofs.Pieces.{row-holds, join-holds}
 use Rattle.mac_resource.proofs.elements.allocation_piece.Statement.{statement}
 use Rattle.mac_resource.proofs.elements.allocation_piece.Tie as tie
