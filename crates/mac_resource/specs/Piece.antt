@@ -42,7 +42,7 @@ pub record Sound (p : Part) : Type 0 where
   pub size : p .piece .bits ≤ 50
   pub small : p .number ≡ 0 → p .piece .value < 2 ^ p .piece .bits
 
--- two parts written one after the other, of which the first may refuse the second
+-- two parts written one after the other: the first number of theirs that is not 0 refuses both
 abbrev pub partsWrite : List ℕ → Cursor → Part → Part → Moved
 partsWrite s c a b = writeAt s c (first (a .number ∷ b .number ∷ [])) (pieceBits (a .piece) ++ pieceBits (b .piece))
 
