@@ -15,7 +15,8 @@
 --          next-part       what follows a part that answered with a refusal of its own
 --          bad-seen, good-seen   what `if !good_window(..)` told
 --          ends            a header that is read ends inside its window
--- Ahead    held-ahead      a word that `load` loaded holds the bits ahead; held-on, ready-on: some bits on, after `on`
+-- Ahead    held-ahead      a word that `load` loaded holds the bits ahead; held-on, ready-on: some bits on, after `on`;
+--                          held-cut, ready-cut: of a header that ends sooner, after `cut`
 --          starved-next    starved where a part is read from what is ahead; starved-field for one field
 --          next-read       what a part's own function answered of what is ahead, as the part's outcome
 --          took            what was read of it was there

@@ -11,7 +11,7 @@ ghost use Rattle.tetra_core.specs.BitBuffer.{moved, remaining};
 ghost use Rattle.tetra_core.specs.Laws.Windows.{Good};
 ghost use Rattle.codec.specs.Feed.{shortAt};
 ghost use Rattle.codec.specs.Header.{within, Word, Left};
-ghost use Rattle.codec.specs.Ahead.{Held, NextBits, Ready, aheadOn};
+ghost use Rattle.codec.specs.Ahead.{Held, NextBits, Ready, aheadOn, aheadCut};
 ghost use Rattle.codec.specs.Write.{refusalAt};
 
 // The bits of a header that are left from the offset o on.
@@ -83,6 +83,18 @@ pub fn on(a: Ahead, n: usize) -> Ahead
         left: a.left - n,
         word: a.word,
         used: a.used + n,
+    }
+}
+
+// The same of a header that ends left bits from here.
+pub fn cut(a: Ahead, left: usize) -> Ahead
+    ensures { λ r. ⌜ r ≡ aheadCut a left ⌝ }
+{
+    Ahead {
+        at: a.at,
+        left,
+        word: a.word,
+        used: a.used,
     }
 }
 
