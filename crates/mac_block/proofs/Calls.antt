@@ -32,7 +32,7 @@ unfolding after
 after-zero zero w w' e = refl
 after-zero (suc j) w w' e = absurd (omega arith)
 
-after-refused : (j : ℕ) (w w' : Writer) → (j ≡ 0 → ⊥) → after j w w' ≡ w
+pub after-refused : (j : ℕ) (w w' : Writer) → (j ≡ 0 → ⊥) → after j w w' ≡ w
 unfolding after
 after-refused zero w w' h = absurd (h refl)
 after-refused (suc j) w w' h = refl

@@ -14,6 +14,7 @@ ghost use Prim.Native.Nat.{_+_, _*_, _≤_, _<_};
 ghost use lib.ListN.{length};
 ghost use Rattle.bits.specs.Bits.{bitsAt, putBits};
 ghost use Rattle.tetra_core.specs.Quantity.{octetsOf};
+ghost use Rattle.tetra_core.specs.BitBuffer.{outcome};
 ghost use Rattle.mac_resource.specs.MacResource.{headerLen};
 ghost use Rattle.mac_block.specs.Writer.{lengthOf, pduSize, goodBit, writerAt, finishBits, finishRefusal, finishTo, finishAnswer, addCheck, addRefusal, addBits, addOf, addTo, addAnswer};
 ghost use Rattle.mac_block.specs.Resource.{resourceCodec, Puttable};
@@ -31,10 +32,22 @@ pub struct Written {
     pub answer: Outcome,
 }
 
-// A null PDU of length 2: 16 bits.
-const NULL_PDU: u64 = 0x0010;
-
+// The bits of a null PDU of length 2.
 const NULL_BITS: usize = 16;
+
+// The first 64 bits of what closes a block that has room for a null PDU: the null PDU, 00 10 h, and fill.
+const CLOSING: u64 = 0x0010800000000000;
+
+// What a call answers that a number refuses, or 0 if nothing does. One place makes the answer of a call: with two, the
+// compiler keeps it in memory.
+fn outcome(number: u8) -> Outcome
+    ensures { λ r. ⌜ r ≡ outcome number ⌝ }
+{
+    if number != 0 {
+        return Outcome::Refused(number);
+    }
+    Outcome::Done
+}
 
 // Whether a writer of a block of so many bits can stand at a bit: on an octet, or at the end.
 fn good_bit(bits: usize, bit: usize) -> bool
@@ -221,11 +234,31 @@ fn put_closing(s: &mut [u8], pos: usize, left: usize)
     ensures { λ r. ⌜ now (s .exit) ≡ putBits (now (s .entry)) pos (finishBits left) ⌝ }
 {
     if left < NULL_BITS {
-        fill::put_fill(s, pos, left);
+        fill::put_short_fill(s, pos, left);
         return;
     }
-    word::put_bits(s, pos, NULL_BITS, NULL_PDU);
-    fill::put_fill(s, pos + NULL_BITS, left - NULL_BITS);
+    // One write where a word holds it all.
+    if left <= 64 {
+        word::put_by_words(s, pos, left, CLOSING >> (64 - left));
+        return;
+    }
+    // Longer ones are rare. The run has a second caller, put_fill, and so stays out of line.
+    word::put_by_words(s, pos, 64, CLOSING);
+    run::put_run(s, pos + 64, left - 64, false);
+}
+
+// What closes a block, put into it, and the bit after it. A number other than 0 refuses it: then nothing is put, and the bit stays.
+fn put_finish(block: &mut [u8], bits: usize, bit: usize, number: u8) -> usize
+    requires { ⌜ number ≡ finishRefusal (length (now block)) bits bit ⌝ }
+    ensures { λ r. ⌜ (r ≡ finishTo bits (writerAt (now (block .entry)) bit) .bit) × (now (block .exit) ≡ finishTo bits (writerAt (now (block .entry)) bit) .bytes) ⌝ }
+{
+    if number != 0 {
+        return bit;
+    }
+    // Off an octet nothing is left.
+    let octet = bit / 8;
+    put_closing(&mut block[octet..], bit % 8, bits - bit);
+    bits
 }
 
 // Closes the block behind the PDUs that were added.
@@ -233,17 +266,9 @@ pub fn finish(block: &mut [u8], bits: usize, bit: usize) -> Written
     ensures { λ r. ⌜ (r ≡ finishAnswer bits (writerAt (now (block .entry)) bit)) × (now (block .exit) ≡ finishTo bits (writerAt (now (block .entry)) bit) .bytes) ⌝ }
 {
     let number = finish_refusal(block.len(), bits, bit);
-    if number != 0 {
-        return Written {
-            bit,
-            answer: Outcome::Refused(number),
-        };
-    }
-    // Off an octet nothing is left.
-    let octet = bit / 8;
-    put_closing(&mut block[octet..], bit % 8, bits - bit);
+    let after = put_finish(block, bits, bit, number);
     Written {
-        bit: bits,
-        answer: Outcome::Done,
+        bit: after,
+        answer: outcome(number),
     }
 }
