@@ -14,10 +14,9 @@ use Rattle.bits.specs.Bits.{putBits, Bytes}
 use Rattle.tetra_core.specs.Quantity.{octetsOf}
 use Rattle.tetra_core.specs.Refusal.{unless, first}
 use Rattle.bits.specs.Laws.Writes.{length-putBits, bytes-putBits, putBits-nil}
-use Rattle.tetra_core.specs.declared.bitbuffer.Outcome.{Outcome}
 use Rattle.mac_block.specs.Codec.{Codec, Laws}
 use Rattle.mac_block.specs.declared.writer.LengthIndication.{LengthIndication}
-use Rattle.mac_block.specs.Writer.{pduSize, fillBits, finishBits, goodBit, Writer, after, answerOf, finished, finishTo, Add, total, totalOf, addCheck, addRefusal, addedBits, added, addTo}
+use Rattle.mac_block.specs.Writer.{pduSize, fillBits, finishBits, goodBit, Writer, after, finished, finishTo, Add, total, totalOf, addCheck, addRefusal, addedBits, added, addTo}
 use Rattle.mac_block.specs.Run.{Call, Item, itemAt, ifAccepted, perform, refusal, run, accepted}
 use Rattle.mac_block.specs.Altered.{bitAt}
 use Rattle.mac_block.specs.Demand3.{Holds}
@@ -27,7 +26,7 @@ use Rattle.mac_block.proofs.WrittenBack.{length-added, length-finish}
 
 -- ---- a number that refuses, and 0
 
-after-zero : (j : ℕ) (w w' : Writer) → j ≡ 0 → after j w w' ≡ w'
+pub after-zero : (j : ℕ) (w w' : Writer) → j ≡ 0 → after j w w' ≡ w'
 unfolding after
 after-zero zero w w' e = refl
 after-zero (suc j) w w' e = absurd (omega arith)
@@ -41,19 +40,6 @@ after-ind : (j : ℕ) (w w' : Writer) (P : Writer → Type 0) → P w → (j ≡
 unfolding after
 after-ind zero w w' P x y = y refl
 after-ind (suc j) w w' P x y = x
-
--- the two returns of a call that the code's number r refuses, and that leaves w' where nothing does
-pub call-refused : (r j : ℕ) (w w' : Writer) → r ≡ j → (r ≡ 0 → ⊥)
-    → (record { bit = w .bit; answer = Outcome.Refused r } ≡ answerOf j (after j w w')) × (w .bytes ≡ after j w w' .bytes)
-unfolding after
-call-refused r zero w w' e h = absurd (h e)
-call-refused r (suc j) w w' e h = (rw e, refl)
-
-pub call-done : (j : ℕ) (w w' : Writer) → j ≡ 0
-    → (record { bit = w' .bit; answer = Outcome.Done } ≡ answerOf j (after j w w')) × (w' .bytes ≡ after j w w' .bytes)
-unfolding after
-call-done zero w w' e = (refl, refl)
-call-done (suc j) w w' e = absurd (omega arith)
 
 if-accepted : {H : Type 0} (j : ℕ) (x : Item H) (xs : List (Item H)) → j ≡ 0 → ifAccepted j x xs ≡ x ∷ xs
 unfolding ifAccepted

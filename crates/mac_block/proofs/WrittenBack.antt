@@ -43,7 +43,7 @@ frame-size LengthIndication.Counted left n lo hi h =
     (λ e. ap Frame.Sized (omega (arith, leb-true (8 * octetsOf n) left e)))
     (λ e. ap Frame.Sized (omega (arith, leb-false (8 * octetsOf n) left e))))
 
-length<64 : (i : LengthIndication) (n : ℕ) → n ≤ 488 → lengthOf i n < 64
+pub length<64 : (i : LengthIndication) (n : ℕ) → n ≤ 488 → lengthOf i n < 64
 unfolding lengthOf
 length<64 LengthIndication.Counted n h = omega arith
 length<64 LengthIndication.Mark62 n h = omega arith

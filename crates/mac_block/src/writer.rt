@@ -2,6 +2,8 @@
 use crate::fill;
 use bits::run;
 use bits::word;
+use mac_resource::added;
+use mac_resource::added::AddedHeader;
 use mac_resource::mac_resource as resource;
 use mac_resource::mac_resource::MacResource;
 use tetra_core::bitbuffer::Outcome;
@@ -15,9 +17,9 @@ ghost use lib.ListN.{length};
 ghost use Rattle.bits.specs.Bits.{bitsAt, putBits};
 ghost use Rattle.tetra_core.specs.Quantity.{octetsOf};
 ghost use Rattle.tetra_core.specs.BitBuffer.{outcome};
-ghost use Rattle.mac_resource.specs.MacResource.{headerLen};
+ghost use Rattle.mac_resource.specs.Added.{Adds, Addable};
 ghost use Rattle.mac_block.specs.Writer.{lengthOf, pduSize, goodBit, writerAt, finishBits, finishRefusal, finishTo, finishAnswer, addCheck, addRefusal, addBits, addOf, addTo, addAnswer};
-ghost use Rattle.mac_block.specs.Resource.{resourceCodec, Puttable};
+ghost use Rattle.mac_block.specs.Resource.{resourceCodec, addedCodec, Puttable};
 
 // The length that a PDU is written with: its octets, or a mark that it takes the rest of the block.
 pub enum LengthIndication {
@@ -114,11 +116,12 @@ fn finish_refusal(len: usize, bits: usize, bit: usize) -> u8
     0
 }
 
-// As add_check, for a header that takes up header_bits.
-fn check_sized(header: MacResource, header_bits: usize, content_bits: usize) -> u8
-    requires { ⌜ («header_bits» ≡ headerLen header) × («header_bits» ≤ 92) ⌝ }
-    ensures { λ r. ⌜ r ≡ addCheck resourceCodec header «content_bits» ⌝ }
+// As add_check, of a header that was taken apart.
+fn check_sized(header: AddedHeader, content_bits: usize) -> u8
+    requires { ⌜ header .bits ≤ 92 ⌝ }
+    ensures { λ r. ⌜ r ≡ addCheck addedCodec header «content_bits» ⌝ }
 {
+    let header_bits = header.bits;
     // Before the sum, which cannot overflow then.
     if crate::MOST_BITS < content_bits {
         return refusal::LENGTH;
@@ -126,14 +129,14 @@ fn check_sized(header: MacResource, header_bits: usize, content_bits: usize) -> 
     if crate::MOST_BITS < header_bits + content_bits {
         return refusal::LENGTH;
     }
-    resource::add_refusal(header)
+    header.number
 }
 
 // Why a header with so many bits of content is not added to any block, or 0.
 pub fn add_check(header: MacResource, content_bits: usize) -> u8
     ensures { λ r. ⌜ r ≡ addCheck resourceCodec header «content_bits» ⌝ }
 {
-    check_sized(header, resource::header_len(header), content_bits)
+    check_sized(added::added_header(header), content_bits)
 }
 
 // Why it is not added at a bit of a block, with the content in a slice of so many bytes, or 0.
@@ -141,13 +144,12 @@ fn add_refusal(
     len: usize,
     bits: usize,
     bit: usize,
-    header: MacResource,
-    header_bits: usize,
+    header: AddedHeader,
     slice: usize,
     content_bits: usize,
 ) -> u8
-    requires { ⌜ («header_bits» ≡ headerLen header) × («header_bits» ≤ 92) ⌝ }
-    ensures { λ r. ⌜ r ≡ addRefusal resourceCodec len bits bit header slice «content_bits» ⌝ }
+    requires { ⌜ header .bits ≤ 92 ⌝ }
+    ensures { λ r. ⌜ r ≡ addRefusal addedCodec len bits bit header slice «content_bits» ⌝ }
 {
     let number = finish_refusal(len, bits, bit);
     if number != 0 {
@@ -157,11 +159,11 @@ fn add_refusal(
     if slice < content_bits / 8 + (content_bits % 8 + 7) / 8 {
         return refusal::BAD_WINDOW;
     }
-    let number = check_sized(header, header_bits, content_bits);
+    let number = check_sized(header, content_bits);
     if number != 0 {
         return number;
     }
-    if bits - bit < header_bits + content_bits {
+    if bits - bit < header.bits + content_bits {
         return refusal::WRITE_PAST_END;
     }
     0
@@ -171,20 +173,84 @@ fn add_refusal(
 fn put_pdu(
     block: &mut [u8],
     bit: usize,
-    header: MacResource,
-    header_bits: usize,
+    header: AddedHeader,
     length_ind: u8,
     content: &[u8],
     content_bits: usize,
     fill: usize,
 )
-    requires { ⌜ («header_bits» ≡ headerLen header) × Puttable bit header «length_ind» (length (now content)) «content_bits» fill (length (now block)) ⌝ }
-    ensures { λ r. ⌜ now (block .exit) ≡ putBits (now (block .entry)) bit (addBits resourceCodec header «length_ind» (bitsAt (now (content .entry)) 0 «content_bits») fill) ⌝ }
+    requires { ⌜ Puttable bit header «length_ind» (length (now content)) «content_bits» fill (length (now block)) ⌝ }
+    ensures { λ r. ⌜ now (block .exit) ≡ putBits (now (block .entry)) bit (addBits addedCodec header «length_ind» (bitsAt (now (content .entry)) 0 «content_bits») fill) ⌝ }
 {
     let octet = bit / 8;
-    resource::put_mac_resource(&mut block[octet..], 0, header, length_ind, fill != 0);
+    let header_bits = header.bits;
+    added::put_header(&mut block[octet..], 0, header, length_ind, fill != 0);
     run::copy_run(block, bit + header_bits, content, 0, content_bits);
     fill::put_fill(&mut block[octet..], header_bits + content_bits, fill);
+}
+
+// A PDU put behind those that were added, and the bit after it. A number other than 0 refuses it: then nothing is put, and the bit stays.
+fn put_add(
+    block: &mut [u8],
+    bits: usize,
+    bit: usize,
+    header: AddedHeader,
+    indication: LengthIndication,
+    content: &[u8],
+    content_bits: usize,
+    number: u8,
+) -> usize
+    requires { ⌜ Addable header × (number ≡ addRefusal addedCodec (length (now block)) bits bit header (length (now content)) «content_bits») ⌝ }
+    ensures { λ r. ⌜ (r ≡ addTo addedCodec bits (writerAt (now (block .entry)) bit) (addOf header indication (now (content .entry)) «content_bits») .bit) × (now (block .exit) ≡ addTo addedCodec bits (writerAt (now (block .entry)) bit) (addOf header indication (now (content .entry)) «content_bits») .bytes) ⌝ }
+{
+    if number != 0 {
+        return bit;
+    }
+    let total = header.bits + content_bits;
+    let size = pdu_size(indication, bits - bit, total);
+    let length_ind = length_of(indication, total);
+    put_pdu(
+        block,
+        bit,
+        header,
+        length_ind,
+        content,
+        content_bits,
+        size - total,
+    );
+    bit + size
+}
+
+// As add, of a header that was taken apart.
+pub fn add_header(
+    block: &mut [u8],
+    bits: usize,
+    bit: usize,
+    header: AddedHeader,
+    indication: LengthIndication,
+    content: &[u8],
+    content_bits: usize,
+) -> Written
+    requires { ⌜ Addable header ⌝ }
+    ensures { λ r. ⌜ ((h : MacResource) → Adds h header → (r ≡ addAnswer resourceCodec bits (writerAt (now (block .entry)) bit) (addOf h indication (now (content .entry)) «content_bits»)) × (now (block .exit) ≡ addTo resourceCodec bits (writerAt (now (block .entry)) bit) (addOf h indication (now (content .entry)) «content_bits») .bytes)) ⌝ }
+{
+    let len = block.len();
+    let slice = content.len();
+    let number = add_refusal(len, bits, bit, header, slice, content_bits);
+    let after = put_add(
+        block,
+        bits,
+        bit,
+        header,
+        indication,
+        content,
+        content_bits,
+        number,
+    );
+    Written {
+        bit: after,
+        answer: outcome(number),
+    }
 }
 
 // Adds a PDU behind those that were added.
@@ -199,33 +265,8 @@ pub fn add(
 ) -> Written
     ensures { λ r. ⌜ (r ≡ addAnswer resourceCodec bits (writerAt (now (block .entry)) bit) (addOf header indication (now (content .entry)) «content_bits»)) × (now (block .exit) ≡ addTo resourceCodec bits (writerAt (now (block .entry)) bit) (addOf header indication (now (content .entry)) «content_bits») .bytes) ⌝ }
 {
-    let len = block.len();
-    let slice = content.len();
-    let header_bits = resource::header_len(header);
-    let number = add_refusal(len, bits, bit, header, header_bits, slice, content_bits);
-    if number != 0 {
-        return Written {
-            bit,
-            answer: Outcome::Refused(number),
-        };
-    }
-    let total = header_bits + content_bits;
-    let size = pdu_size(indication, bits - bit, total);
-    let length_ind = length_of(indication, total);
-    put_pdu(
-        block,
-        bit,
-        header,
-        header_bits,
-        length_ind,
-        content,
-        content_bits,
-        size - total,
-    );
-    Written {
-        bit: bit + size,
-        answer: Outcome::Done,
-    }
+    let parts = added::added_header(header);
+    add_header(block, bits, bit, parts, indication, content, content_bits)
 }
 
 // What closes a block, put into the left bits of s from pos on: a null PDU if there is room for it, and fill.

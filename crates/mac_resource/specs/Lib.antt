@@ -3,4 +3,5 @@ pub mod Address
 pub mod Fixed
 pub mod Elements
 pub mod MacResource
+pub mod Added
 pub mod Laws

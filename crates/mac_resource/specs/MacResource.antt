@@ -158,13 +158,12 @@ ownRefusal h =
 unfoldable pub frontBits : MacResource → ℕ → Bool → List Bool
 frontBits h len fill = rowBits (fixedRow (fixedOf h len fill)) ++ rowBits (addressRow (h .addr))
 
--- a part that is what stands before the elements, and one that is the elements. "A null header has no elements", and "null elements go
--- unchecked"
+-- a part that is what stands before the elements, and one that is the elements
 abbrev pub WritesFront : MacResource → Part → Type 0
 WritesFront h p = Writes (ownRefusal h) (frontBits h (h .«length_ind») (h .«fill_bits»)) p
 
 abbrev pub WritesRest : MacResource → Part → Type 0
-WritesRest h p = Writes (cond (isNull (h .addr)) 0 (elementsRefusal (elementsOf h))) (cond (isNull (h .addr)) [] (elementsBits (elementsOf h))) p
+WritesRest h p = Writes (elementsRefusal (elementsOf h)) (elementsBits (elementsOf h)) p
 
 unfoldable pub headerBits : MacResource → ℕ → Bool → List Bool
 headerBits h len fill =

@@ -42,6 +42,13 @@ pub record Sound (p : Part) : Type 0 where
   pub size : p .piece .bits ≤ 50
   pub small : p .number ≡ 0 → p .piece .value < 2 ^ p .piece .bits
 
+-- a part written
+abbrev pub partWrite : List ℕ → Cursor → Part → Moved
+partWrite s c a = writeAt s c (a .number) (pieceBits (a .piece))
+
+abbrev pub partWritten : List ℕ → Cursor → Part → List ℕ
+partWritten s c a = writtenAt s c (a .number) (pieceBits (a .piece))
+
 -- two parts written one after the other: the first number of theirs that is not 0 refuses both
 abbrev pub partsWrite : List ℕ → Cursor → Part → Part → Moved
 partsWrite s c a b = writeAt s c (first (a .number ∷ b .number ∷ [])) (pieceBits (a .piece) ++ pieceBits (b .piece))

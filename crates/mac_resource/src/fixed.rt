@@ -8,7 +8,7 @@ use tetra_core::refusal::Refusal;
 ghost use mathlib.Core.Path.{_≡_};
 ghost use Prim.Native.Nat.{_<_};
 ghost use Rattle.codec.specs.Ahead.{Ready, ReadsNext};
-ghost use Rattle.codec.specs.Row.{rowBits};
+ghost use Rattle.codec.specs.Row.{rowBits, rowWord};
 ghost use Rattle.mac_resource.specs.Piece.{Holds};
 ghost use Rattle.mac_resource.specs.Fixed.{readFixed, fixedOut, fixedRow, FixedFits};
 
@@ -101,9 +101,8 @@ pub(crate) fn read_fixed(a: Ahead) -> FixedPart
 }
 
 // The first 16 bits as one number.
-pub(crate) fn fixed_piece(f: Fixed) -> Piece
-    requires { ⌜ FixedFits f ⌝ }
-    ensures { λ r. ⌜ Holds (rowBits (fixedRow f)) 16 r ⌝ }
+pub(crate) fn fixed_word(f: Fixed) -> u64
+    ensures { λ r. ⌜ r ≡ rowWord (fixedRow f) ⌝ }
 {
     let kind = f.addr_type;
     let t = addr_type::into_raw(kind);
@@ -112,9 +111,16 @@ pub(crate) fn fixed_piece(f: Fixed) -> Piece
     let mode = f.encryption_mode as u64;
     let random = codec::bit(f.random_access_flag);
     let len = f.length_ind as u64;
+    0 * 16384 + (fill * 8192 + (pos * 4096 + (mode * 1024 + (random * 512 + (len * 8 + t)))))
+}
+
+// The same as a piece.
+pub(crate) fn fixed_piece(f: Fixed) -> Piece
+    requires { ⌜ FixedFits f ⌝ }
+    ensures { λ r. ⌜ Holds (rowBits (fixedRow f)) 16 r ⌝ }
+{
     Piece {
-        value: 0 * 16384
-            + (fill * 8192 + (pos * 4096 + (mode * 1024 + (random * 512 + (len * 8 + t))))),
+        value: fixed_word(f),
         bits: 16,
     }
 }

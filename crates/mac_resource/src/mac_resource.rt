@@ -24,9 +24,8 @@ use tetra_core::refusal;
 use tetra_core::refusal::Refusal;
 ghost use mathlib.Core.Path.{_≡_};
 ghost use mathlib.Core.Bool.{true, false};
-ghost use Prim.Native.Nat.{_+_, _*_, _≤_, _<_};
+ghost use Prim.Native.Nat.{_+_, _≤_};
 ghost use lib.ListN.{length};
-ghost use Rattle.bits.specs.Bits.{putBits};
 ghost use Rattle.tetra_core.specs.Laws.Windows.{Good};
 ghost use Rattle.codec.specs.Header.{within, Reads};
 ghost use Rattle.codec.specs.Ahead.{Held, Ready};
@@ -34,7 +33,7 @@ ghost use Rattle.codec.specs.Row.{rowBits};
 ghost use Rattle.mac_resource.specs.Piece.{Holds};
 ghost use Rattle.mac_resource.specs.Address.{typeOf, isNull, addressLen, addressRow};
 ghost use Rattle.mac_resource.specs.Fixed.{FixedFits};
-ghost use Rattle.mac_resource.specs.MacResource.{nullOf, nullPdu, fixedOf, elementsOf, headerOf, readMacResource, macResourceOut, macResourceAt, encryptedRefusal, nullRefusal, frontRefusal, addRefusal, frontBits, WritesFront, headerBits, headerLen, lengthRefusal, computeHeaderLen, updateLenAndFillInd, macResourceWrite, macResourceWritten};
+ghost use Rattle.mac_resource.specs.MacResource.{nullOf, nullPdu, fixedOf, elementsOf, headerOf, readMacResource, macResourceOut, macResourceAt, encryptedRefusal, nullRefusal, frontRefusal, frontBits, WritesFront, headerLen, lengthRefusal, computeHeaderLen, updateLenAndFillInd, macResourceWrite, macResourceWritten};
 
 // Marks in the place of a length: a fragment starts here; the second half slot is stolen too.
 pub const MAC_RESOURCE_LENGTH_FRAG_START: u8 = 63;
@@ -124,7 +123,7 @@ pub fn is_null_pdu(h: MacResource) -> bool
 }
 
 // The first 16 bits of a header that is written with a length and a fill flag.
-fn fixed_of(h: MacResource, length_ind: u8, fill_bits: bool) -> Fixed
+pub(crate) fn fixed_of(h: MacResource, length_ind: u8, fill_bits: bool) -> Fixed
     ensures { λ r. ⌜ r ≡ fixedOf h «length_ind» «fill_bits» ⌝ }
 {
     let a = h.addr;
@@ -138,7 +137,7 @@ fn fixed_of(h: MacResource, length_ind: u8, fill_bits: bool) -> Fixed
     }
 }
 
-fn elements_of(h: MacResource) -> Elements
+pub(crate) fn elements_of(h: MacResource) -> Elements
     ensures { λ r. ⌜ r ≡ elementsOf h ⌝ }
 {
     let power_control_element = h.power_control_element;
@@ -283,7 +282,7 @@ fn null_refusal(h: MacResource) -> u8
 }
 
 // Why the fields before the elements are not written, or 0. The length and the address are themselves refused by a number or by 0.
-fn front_refusal(h: MacResource, length: u8, address: u8) -> u8
+pub(crate) fn front_refusal(h: MacResource, length: u8, address: u8) -> u8
     ensures { λ r. ⌜ r ≡ frontRefusal h length address ⌝ }
 {
     let number = encrypted_refusal(h);
@@ -300,21 +299,6 @@ fn front_refusal(h: MacResource, length: u8, address: u8) -> u8
         return length;
     }
     address
-}
-
-// Why a header is not added to a block, or 0. The block's writer sets length and fill, so they are not looked at.
-pub fn add_refusal(h: MacResource) -> u8
-    ensures { λ r. ⌜ r ≡ addRefusal h ⌝ }
-{
-    if is_null_pdu(h) {
-        return refusal::NULL_PDU;
-    }
-    let a = h.addr;
-    let number = front_refusal(h, 0, address::address_refusal(a));
-    if number != 0 {
-        return number;
-    }
-    elements::elements_refusal(elements_of(h))
 }
 
 // The bits that a header takes up, in the augmented direction too.
@@ -380,16 +364,6 @@ fn front_piece(h: MacResource, length_ind: u8, fill_bits: bool, address: Piece) 
     )
 }
 
-// Puts a header with a length and a fill flag into s from pos on.
-pub fn put_mac_resource(s: &mut [u8], pos: usize, h: MacResource, length_ind: u8, fill_bits: bool)
-    requires { ⌜ (pos + headerLen h ≤ 8 * length (now s)) × (pos + headerLen h ≤ 65536) × (addRefusal h ≡ 0) × («length_ind» < 64) ⌝ }
-    ensures { λ r. ⌜ now (s .exit) ≡ putBits (now (s .entry)) pos (headerBits h «length_ind» «fill_bits») ⌝ }
-{
-    let a = h.addr;
-    let front = front_piece(h, length_ind, fill_bits, address::address_piece(a));
-    piece::put_both(s, pos, front, elements::elements_piece(elements_of(h)));
-}
-
 // The first 16 bits of a null header: nothing but its length is not 0.
 pub fn null_part(h: MacResource) -> Part
     requires { ⌜ isNull (h .addr) ≡ true ⌝ }
@@ -442,7 +416,7 @@ pub fn to_bitbuf(s: &mut [u8], c: Cursor, h: MacResource) -> Moved
     ensures { λ r. ⌜ (r ≡ macResourceWrite (now (s .entry)) c h) × (now (s .exit) ≡ macResourceWritten (now (s .entry)) c h) ⌝ }
 {
     if is_null_pdu(h) {
-        return piece::write_parts(s, c, null_part(h), piece::nothing());
+        return piece::write_part(s, c, null_part(h));
     }
     piece::write_parts(s, c, front_part(h), elements::elements_part(elements_of(h)))
 }

@@ -3,15 +3,14 @@ use bits::word;
 use tetra_core::bitbuffer;
 use tetra_core::bitbuffer::Cursor;
 use tetra_core::bitbuffer::Moved;
-use tetra_core::refusal;
 ghost use mathlib.Core.List.{[], _∷_, _++_};
 ghost use mathlib.Core.Path.{_≡_};
-ghost use Prim.Native.Nat.{_+_, _^_, _≤_, _<_};
+ghost use Prim.Native.Nat.{_+_, _*_, _^_, _≤_, _<_};
 ghost use lib.ListN.{length};
 ghost use Rattle.bits.specs.Bits.{putBits};
 ghost use Rattle.tetra_core.specs.Refusal.{first};
 ghost use Rattle.tetra_core.specs.BitBuffer.{bytesAfter};
-ghost use Rattle.mac_resource.specs.Piece.{pieceBits, Holds, Puttable, Writes, Sound, partsWrite, partsWritten};
+ghost use Rattle.mac_resource.specs.Piece.{pieceBits, Holds, Puttable, Sound, partWrite, partWritten, partsWrite, partsWritten};
 
 // The low bits of a number.
 pub struct Piece {
@@ -50,16 +49,6 @@ pub(crate) fn refused(number: u8) -> Part
     }
 }
 
-// A part without bits.
-pub fn nothing() -> Part
-    ensures { λ r. ⌜ Writes 0 [] r ⌝ }
-{
-    Part {
-        number: refusal::NONE,
-        piece: Piece { value: 0, bits: 0 },
-    }
-}
-
 // Puts two pieces into s from pos on, one after the other: by one write where a word holds both.
 pub(crate) fn put_both(s: &mut [u8], pos: usize, a: Piece, b: Piece)
     requires { ⌜ Puttable (length (now s)) pos a b ⌝ }
@@ -87,13 +76,38 @@ fn put_unless(s: &mut [u8], pos: usize, number: u8, a: Piece, b: Piece)
     put_both(s, pos, a, b);
 }
 
-fn first_of(m: u8, n: u8) -> u8
+// The first of two numbers that is not 0, or 0.
+pub fn first_of(m: u8, n: u8) -> u8
     ensures { λ r. ⌜ r ≡ first (m ∷ n ∷ []) ⌝ }
 {
     if m != 0 {
         return m;
     }
     n
+}
+
+// Puts a piece into s from pos on, unless a number other than 0 refuses it.
+fn put_one_unless(s: &mut [u8], pos: usize, number: u8, a: Piece)
+    requires { ⌜ (number ≡ 0 → (pos + a .bits ≤ 8 * length (now s)) × (a .bits ≤ 64) × (pos ≤ 65536) × (a .value < 2 ^ a .bits) × (0 < a .bits)) ⌝ }
+    ensures { λ r. ⌜ now (s .exit) ≡ bytesAfter number (now (s .entry)) (putBits (now (s .entry)) pos (pieceBits a)) ⌝ }
+{
+    if number != 0 {
+        return;
+    }
+    word::put_by_words(s, pos, a.bits, a.value);
+}
+
+// Writes a header that is one part at the cursor.
+pub fn write_part(s: &mut [u8], c: Cursor, a: Part) -> Moved
+    requires { ⌜ Sound a × (a .number ≡ 0 → 0 < a .piece .bits) ⌝ }
+    ensures { λ r. ⌜ (r ≡ partWrite (now (s .entry)) c a) × (now (s .exit) ≡ partWritten (now (s .entry)) c a) ⌝ }
+{
+    let p = a.piece;
+    let size = p.bits;
+    let number = codec::write_refusal(s.len(), c, a.number, size);
+    let pos = c.pos;
+    put_one_unless(s, pos, number, p);
+    bitbuffer::moved_unless(c, number, size)
 }
 
 // Writes the two parts of a header at the cursor.

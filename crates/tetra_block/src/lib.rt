@@ -195,9 +195,9 @@ pub extern "C" fn tetra_block_add(
     if !add_known(length, words) {
         return record::MALFORMED;
     }
-    let h = tetra_resource::mac_resource_value(words);
+    let header = tetra_resource::added_of(words);
     let indication = length_value(length);
-    let done = writer::add(block, bits, bit, h, indication, content, content_bits);
+    let done = writer::add_header(block, bits, bit, header, indication, content, content_bits);
     writer_moved(out, bits, done)
 }
 

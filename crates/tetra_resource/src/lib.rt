@@ -2,6 +2,8 @@
 // kind, first and second number; whether there is a power control, power control; whether there is a slot grant, its 3 words; whether there
 // is a channel allocation, its 9 words. What there is not is read as 0 and not looked at when written. A library apart from tetra_mac: there
 // the readers and writers of an element have a caller more, and the compiler would not put them here.
+use mac_resource::added;
+use mac_resource::added::AddedHeader;
 use mac_resource::elements;
 use mac_resource::elements::ChannelAllocation;
 use mac_resource::elements::Elements;
@@ -32,8 +34,9 @@ ghost use lib.ListN.{length};
 ghost use lib.Seq.{sets};
 ghost use Rattle.tetra_core.specs.declared.bitbuffer.Outcome.the-variants.{Refused};
 ghost use Rattle.mac_resource.specs.Elements.{noElements};
-ghost use Rattle.mac_resource.specs.MacResource.{nullOf, elementsOf, WritesFront, WritesRest};
-ghost use Rattle.tetra_mac.specs.Reply.{replied, wrote, window, putFirst, givenReply};
+ghost use Rattle.mac_resource.specs.MacResource.{nullOf, elementsOf, headerLen, WritesFront, WritesRest};
+ghost use Rattle.mac_resource.specs.Added.{Adds};
+ghost use Rattle.tetra_mac.specs.Reply.{word, replied, wrote, window, putFirst, givenReply};
 ghost use Rattle.tetra_resource.specs.MacResource.{fixedWords, addressWords, powerWords, frontWords, grantingWords, allocationWords, macResourceWords, powerValue, grantingKnown, grantingValue, allocationKnown, allocationValue, frontValue, addressOfWords, powerOfWords, assembled, macResourceKnown, macResourceValue, macResourceReadReply, macResourceWriteReply, headerLenReply, updateLenReply};
 
 // The cursor's bit, and the words of the fields before the address.
@@ -287,7 +290,7 @@ pub fn mac_resource_value(words: &[u64]) -> MacResource
     )
 }
 
-// To write, a header is taken from the words in two parts, and a null header or one without elements by itself: so what is made of a word is
+// To write, a header is taken from the words in parts, and a null header or one without elements by itself: so what is made of a word is
 // spent before the next words are read, and no header is put together.
 
 // The header of an address that has no elements.
@@ -303,14 +306,19 @@ fn bare(f: Front, addr: TetraAddress) -> MacResource
     )
 }
 
-// What stands before the elements of the words' header.
-fn front_of(words: &[u64]) -> Part
-    requires { ⌜ 25 ≤ length (now words) ⌝ }
+// All of the words' header, which is null.
+fn null_of(words: &[u64]) -> Part
+    requires { ⌜ (25 ≤ length (now words)) × (word (now words) 5 ≡ 0) ⌝ }
     ensures { λ r. ⌜ WritesFront (macResourceValue (now (words .entry))) r ⌝ }
 {
-    if words[5] == 0 {
-        return resource::null_part(bare(front_value(words), TetraAddress::NullPdu));
-    }
+    resource::null_part(bare(front_value(words), TetraAddress::NullPdu))
+}
+
+// What stands before the elements of the words' header, which is not null.
+fn front_of(words: &[u64]) -> Part
+    requires { ⌜ (25 ≤ length (now words)) × (word (now words) 5 ≡ 0 → ⊥) ⌝ }
+    ensures { λ r. ⌜ WritesFront (macResourceValue (now (words .entry))) r ⌝ }
+{
     resource::front_part(bare(front_value(words), address_of(words)))
 }
 
@@ -332,9 +340,6 @@ fn rest_of(words: &[u64]) -> Part
     requires { ⌜ 25 ≤ length (now words) ⌝ }
     ensures { λ r. ⌜ WritesRest (macResourceValue (now (words .entry))) r ⌝ }
 {
-    if words[5] == 0 {
-        return piece::nothing();
-    }
     if has_no_element(words) {
         return elements::bare_part();
     }
@@ -346,6 +351,31 @@ fn rest_of(words: &[u64]) -> Part
         slot_granting_element,
         chan_alloc_element,
     })
+}
+
+// The words' header, which a number refuses, on its way into a block.
+fn refused_of(words: &[u64], number: u8) -> AddedHeader
+    requires { ⌜ 25 ≤ length (now words) ⌝ }
+    ensures { λ r. ⌜ (r .number ≡ number) × (r .bits ≡ headerLen (macResourceValue (now (words .entry)))) ⌝ }
+{
+    added::refused(number, resource::header_len(mac_resource_value(words)))
+}
+
+// The words' header on its way into a block.
+pub fn added_of(words: &[u64]) -> AddedHeader
+    requires { ⌜ 25 ≤ length (now words) ⌝ }
+    ensures { λ r. ⌜ Adds (macResourceValue (now (words .entry))) r ⌝ }
+{
+    if words[5] == 0 {
+        return refused_of(words, refusal::NULL_PDU);
+    }
+    let front = added::added_front(bare(front_value(words), address_of(words)));
+    let rest = rest_of(words);
+    let number = piece::first_of(front.number, rest.number);
+    if number != 0 {
+        return refused_of(words, number);
+    }
+    added::whole(front, rest.piece)
 }
 
 fn refused(c: Cursor, number: u8) -> Moved
@@ -405,6 +435,10 @@ pub extern "C" fn tetra_mac_resource_write(
     // As soon as it is known: a header that is refused is not asked for its elements.
     if !bitbuffer::good_window(s.len(), c) {
         return record::moved(out, refused(c, refusal::BAD_WINDOW));
+    }
+    if words[5] == 0 {
+        let done = piece::write_part(s, c, null_of(words));
+        return record::moved(out, done);
     }
     let front = front_of(words);
     if front.number != 0 {

@@ -10,7 +10,7 @@ use lib.Seq.{take-at, drop-at}
 use Rattle.bits.specs.Bits.{digit, val, bitsOfNat}
 use Rattle.bits.specs.Laws.Values.{digit-lt, length-bitsOfNat, val-bitsOfNat}
 use Rattle.codec.specs.Reader.{got, run}
-use Rattle.codec.specs.Row.{Cell, cell, size, rowBits, RowFits, length-row}
+use Rattle.codec.specs.Row.{Cell, cell, size, rowBits, rowWord, RowFits, RowIs, length-row, row-is}
 use Rattle.codec.specs.Back.{gives}
 use Rattle.codec.specs.Cases.{flag-back}
 use Rattle.mac_resource.specs.Address.{addrTypeNumber}
@@ -27,6 +27,11 @@ fixed-fits f h = (
     (h .position, (h .encryption, (digit-lt (f .«random_access_flag»), (h .len, (addr-type-back (f .«addr_type») .0, tt))))),
   ),
 )
+
+-- the one number of these bits
+pub fixed-is : (f : Fixed) → FixedFits f → RowIs (fixedRow f) 16 (rowWord (fixedRow f))
+unfolding fixedRow
+fixed-is f h = row-is (fixedRow f) (fixed-fits f h)
 
 -- whatever follows them
 pub fixed-back : (f : Fixed) → FixedFits f → (rest : List Bool) (o : ℕ) → run readFixed (rowBits (fixedRow f) ++ rest) o ≡ got f rest (o + 16)

@@ -1,8 +1,8 @@
 -- The header of words in the two parts that it is written in.
 use Prim.Native.Nat.{ℕ, zero, suc, _<_}
-use mathlib.Core.Path.{_≡_, refl, ap, _∙_}
+use mathlib.Core.Path.{_≡_, refl, sym, ap, _∙_}
 use mathlib.Core.List.{List}
-use mathlib.Core.Bool.{false}
+use mathlib.Core.Bool.{true, false}
 use native.Mathlib.Nat.{add-zero}
 use lib.Dec.{lit<}
 use lib.ListN.{drop, getD}
@@ -20,6 +20,9 @@ use Rattle.mac_resource.specs.declared.elements.ChannelAllocation.{ChannelAlloc
 use Rattle.mac_resource.specs.declared.elements.Elements.{Elements}
 use Rattle.mac_resource.specs.declared.mac_resource.MacResource.{MacResource}
 use Rattle.mac_resource.specs.declared.piece.Part.{Part}
+use Rattle.mac_resource.specs.declared.added.AddedFront.{AddedFront}
+use Rattle.mac_resource.specs.Fixed.{fixedRow}
+use Rattle.mac_resource.specs.Added.{AddsFront}
 use Rattle.tetra_mac.specs.Reply.{word}
 use Rattle.tetra_mac.specs.Address.{ssiOfKind, addresses, addressValue}
 use Rattle.tetra_resource.specs.declared.Front.{Front}
@@ -45,9 +48,13 @@ pub value-some : (ws : List ℕ) → (word ws 5 ≡ 0 → ⊥) → isNull (addre
 unfolding addressValue
 value-some ws z = address-some (word ws 5) (ssiOfKind (word ws 6)) (word ws 7) (word ws 8) _ refl z
 
-pub null-address : (ws : List ℕ) → isNull (macResourceValue ws .addr) ≡ isNull (addressOfWords ws)
+pub header-null : (ws : List ℕ) → word ws 5 ≡ 0 → isNull (macResourceValue ws .addr) ≡ true
 unfolding macResourceValue
-null-address ws = refl
+header-null ws e = ap isNull (sym (address-null ws e))
+
+pub header-some : (ws : List ℕ) → (word ws 5 ≡ 0 → ⊥) → isNull (macResourceValue ws .addr) ≡ false
+unfolding macResourceValue
+header-some ws z = value-some ws z
 
 -- ---- what stands before the elements
 
@@ -61,6 +68,14 @@ pub front-written : (ws : List ℕ) {h : MacResource} {f : Front} {a : TetraAddr
     → WritesFront h r → WritesFront (macResourceValue ws) r
 unfolding macResourceValue
 front-written ws h f a w = front-alone _ _ _ _ _ (rw (h, f, a) at w)
+
+-- the same on its way into a block
+pub front-added : (ws : List ℕ) {h : MacResource} {f : Front} {a : TetraAddress} {r : AddedFront}
+    → h ≡ assembled f a PowerControl.Without SlotGranting.Without ChannelAllocation.Without → f ≡ frontValue ws → a ≡ addressOfWords ws
+    → AddsFront h r → AddsFront (macResourceValue ws) r
+unfolding macResourceValue frontRefusal encryptedRefusal fixedRow
+front-added ws h f a w = let x = rw (h, f, a) at w in
+    record { number = x .number; fixed = x .fixed; address = x .address }
 
 -- ---- the elements
 

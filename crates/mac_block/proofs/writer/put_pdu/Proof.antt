@@ -7,32 +7,32 @@ use denote.Ref.{now}
 use lib.ListN.{length}
 use Rattle.bits.specs.Bits.{putBits}
 use Rattle.bits.specs.Laws.Reads.{length-bitsAt}
-use Rattle.mac_resource.specs.MacResource.{headerBits, headerLen}
-use Rattle.mac_resource.specs.Laws.MacResource.{header-length}
+use Rattle.mac_resource.specs.Added.{bitsWith}
+use Rattle.mac_resource.specs.Laws.Added.{bits-length}
 use Rattle.mac_block.specs.Writer.{flagOf, fillBits, addBits}
 use Rattle.mac_block.proofs.Lists.{length-fill}
 use Rattle.mac_block.proofs.Puts.{flag-is, length-part, put-part, put-three}
 use Rattle.mac_block.proofs.writer.put_pdu.Statement.{statement}
 use Rattle.mac_block.proofs.writer.put_pdu.Tie as tie
 
-put-mac-resource-requires : tie.Need-put-mac-resource-requires
-put-mac-resource-requires c κs =
+put-header-requires : tie.Need-put-header-requires
+put-header-requires c κs =
     let o = c .before .before .before in
     let a = o .args in
     let l = length-part (now (a .block)) (a .bit / 8) in
-    (omega arith, omega arith, o .pre .1 .fine, o .pre .1 .length)
+    (o .pre .fine, omega arith, omega arith, o .pre .length)
 
 -- the header is in its place
 header : (c : tie.After-block)
     → let o = c .before .before .before .before .before in let a = o .args in
-    putMid (a .bit / 8) (length (now (a .block)) - a .bit / 8) (now (a .block)) (c .before .put-mac-resource .last .0)
-    ≡ putBits (now (a .block)) (a .bit) (headerBits (a .header) (a .length-ind) (flagOf (a .fill)))
+    putMid (a .bit / 8) (length (now (a .block)) - a .bit / 8) (now (a .block)) (c .before .put-header .last .0)
+    ≡ putBits (now (a .block)) (a .bit) (bitsWith (a .header) (a .length-ind) (flagOf (a .fill)))
 header c =
     let o = c .before .before .before .before .before in
     let a = o .args in
-    put-part (now (a .block)) (a .bit / 8) 0 (a .bit) (headerBits (a .header) (a .length-ind) (flagOf (a .fill)))
+    put-part (now (a .block)) (a .bit / 8) 0 (a .bit) (bitsWith (a .header) (a .length-ind) (flagOf (a .fill)))
     (λ i. omega (arith, c .before .before .before .before .slice-known .given i)) (omega arith)
-    (omega (arith, header-length (a .header) (a .length-ind) (flagOf (a .fill)))) (rw (flag-is (a .fill)) at (c .before .put-mac-resource .ensures))
+    (omega (arith, bits-length (o .pre .fine) (a .length-ind) (flagOf (a .fill)))) (rw (flag-is (a .fill)) at (c .before .put-header .ensures))
 
 returns : tie.Need-returns
 unfolding addBits
@@ -43,10 +43,10 @@ returns c =
     let h = r .before .before .before in
     let o = h .before .before .before .before .before in
     let a = o .args in
-    put-part _ (a .bit / 8) _ (a .bit + (headerLen (a .header) + a .content-bits)) (fillBits (a .fill)) (λ i. omega (arith, k .slice-known3 .given i))
-    (omega arith) (omega (arith, length-fill (a .fill), o .pre .1 .room)) (f .put-fill .ensures)
-    ∙ rw (r .copy-run .ensures, header h, o .pre .0)
-    (put-three (now (a .block)) (a .bit) (headerLen (a .header)) (a .content-bits) _ _ _ (header-length (a .header) (a .length-ind) (flagOf (a .fill)))
+    put-part _ (a .bit / 8) _ (a .bit + (a .header .bits + a .content-bits)) (fillBits (a .fill)) (λ i. omega (arith, k .slice-known3 .given i))
+    (omega arith) (omega (arith, length-fill (a .fill), o .pre .room)) (f .put-fill .ensures)
+    ∙ rw (r .copy-run .ensures, header h)
+    (put-three (now (a .block)) (a .bit) (a .header .bits) (a .content-bits) _ _ _ (bits-length (o .pre .fine) (a .length-ind) (flagOf (a .fill)))
     (length-bitsAt _ 0 _ (omega arith)) (omega arith))
 
 pub put-pdu-spec : {M : Type 1} → statement M
@@ -56,7 +56,7 @@ put-pdu-spec =
     (λ c. search needs)
     (λ c. search needs)
     (λ c. search needs)
-    put-mac-resource-requires
+    put-header-requires
     (λ c. search needs)
     (λ c κs. search needs)
     (λ c. search needs)
