@@ -9,20 +9,21 @@ use crate::enums::access_code::AccessCode;
 use crate::structs::access_field;
 use crate::structs::access_field::AccessField;
 use crate::structs::base_frame_length::BaseFrameLength;
-use bits::word;
+use codec::piece;
+use codec::piece::Part;
+use codec::piece::Piece;
 use tetra_core::bitbuffer;
 use tetra_core::bitbuffer::Cursor;
 use tetra_core::bitbuffer::Moved;
-use tetra_core::bitbuffer::Outcome;
 use tetra_core::refusal;
 use tetra_core::refusal::Refusal;
 ghost use mathlib.Core.Path.{_≡_};
-ghost use Prim.Native.Nat.{_+_, _*_, _≤_, _<_};
+ghost use Prim.Native.Nat.{_≤_, _<_};
 ghost use lib.ListN.{length};
-ghost use Rattle.bits.specs.Bits.{putBits};
 ghost use Rattle.tetra_core.specs.Laws.Windows.{Good};
 ghost use Rattle.codec.specs.Header.{within, Reads};
 ghost use Rattle.codec.specs.Row.{rowBits, RowIs};
+ghost use Rattle.codec.specs.Piece.{Writes};
 ghost use Rattle.access_assign.specs.AccessAssign.{defaultAccessAssign, isDlTraffic, Says, readAccessAssign, accessAssignOut, accessAssignAt, headerNumber, fieldOne, fieldTwo, accessAssignRefusal, accessAssignRow, accessAssignWrite, accessAssignWritten};
 
 pub enum AccessAssign {
@@ -308,31 +309,26 @@ fn access_assign_word(a: AccessAssign) -> u64
     header(a) * 4096 + (field_one(a) * 64 + field_two(a))
 }
 
-// Puts an ACCESS-ASSIGN into s from pos on.
-fn put_access_assign(s: &mut [u8], pos: usize, a: AccessAssign)
-    requires { ⌜ (pos + 14 ≤ 8 * length (now s)) × (pos ≤ 65536) × (accessAssignRefusal a ≡ 0) ⌝ }
-    ensures { λ r. ⌜ now (s .exit) ≡ putBits (now (s .entry)) pos (rowBits (accessAssignRow a)) ⌝ }
+// An ACCESS-ASSIGN on its way to being written.
+fn access_assign_part(a: AccessAssign) -> Part
+    ensures { λ r. ⌜ Writes (accessAssignRefusal a) (rowBits (accessAssignRow a)) r ⌝ }
 {
-    let x = access_assign_word(a);
-    word::put_bits(s, pos, 14, x);
+    let number = access_assign_refusal(a);
+    if number != 0 {
+        return piece::refused(number);
+    }
+    Part {
+        number,
+        piece: Piece {
+            value: access_assign_word(a),
+            bits: 14,
+        },
+    }
 }
 
 // Writes an ACCESS-ASSIGN at the cursor.
 pub fn to_bitbuf(s: &mut [u8], c: Cursor, a: AccessAssign) -> Moved
     ensures { λ r. ⌜ (r ≡ accessAssignWrite (now (s .entry)) c a) × (now (s .exit) ≡ accessAssignWritten (now (s .entry)) c a) ⌝ }
 {
-    let value = access_assign_refusal(a);
-    let number = codec::write_refusal(s.len(), c, value, 14);
-    if number != 0 {
-        return Moved {
-            cursor: c,
-            answer: Outcome::Refused(number),
-        };
-    }
-    let pos = c.pos;
-    put_access_assign(s, pos, a);
-    Moved {
-        cursor: codec::moved_by(c, 14),
-        answer: Outcome::Done,
-    }
+    piece::write_part(s, c, access_assign_part(a))
 }

@@ -22,11 +22,13 @@
 --          took            what was read of it was there
 -- Row      row-is          the number of a row whose values fit
 --          length-row      the bits of a row are as many as its widths together
---          put-row         a number that was put is the row that it stands for
---          join-rows       a row and a tail as one number
+--          join-rows       a row and a tail as one number; rows-append, rows-joined: two rows are one
 -- Write    free, free-test what is known where nothing refuses a write, and back
 --          write-refused   the refused return of a call that writes, its answer and its bytes
 --          write-done      the last return of one
+-- Piece    row-holds       a row that is one number, as a piece; join-holds: two pieces joined
+--          refused-writes, piece-writes   a part that is refused, and one that is a piece
+--          writable, part-written   a part can be written, and is written as what it was made of
 -- Back     gives           a reader of bits that begin with a row computes past every cell of the row
 --          written-back    what a call wrote at a cursor is read there: value and cursor
 -- Again    spelt           what holds of a reader's value and bits whatever its fields hold (`Every`) holds of what is read
@@ -44,6 +46,7 @@ pub mod Header
 pub mod Ahead
 pub mod Row
 pub mod Write
+pub mod Piece
 pub mod Back
 pub mod Again
 pub mod Lend

@@ -1,10 +1,12 @@
 // What every header codec is made of: several fields by one read, several fields by one write, and the decisions that all calls share.
+pub mod piece;
+
 use tetra_core::bitbuffer;
 use tetra_core::bitbuffer::Cursor;
 use tetra_core::refusal;
 use tetra_core::refusal::Refusal;
 ghost use mathlib.Core.Path.{_≡_};
-ghost use Prim.Native.Nat.{_+_, _-_, _≤_, _<_};
+ghost use Prim.Native.Nat.{_+_, _≤_, _<_};
 ghost use lib.ListN.{length};
 ghost use Rattle.bits.specs.Bits.{digit};
 ghost use Rattle.tetra_core.specs.BitBuffer.{moved, remaining};

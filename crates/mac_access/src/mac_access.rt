@@ -1,10 +1,11 @@
 // Clause 21.4.2.1, MAC-ACCESS: PDU type 1, fill 1, encrypted 1, address type 2, address, option flag 1 and, if set, 6 bits more.
-use bits::word;
+use codec::piece;
+use codec::piece::Part;
+use codec::piece::Piece;
 use tetra_core::address::UplinkAddress;
 use tetra_core::bitbuffer;
 use tetra_core::bitbuffer::Cursor;
 use tetra_core::bitbuffer::Moved;
-use tetra_core::bitbuffer::Outcome;
 use tetra_core::refusal;
 use tetra_core::refusal::Refusal;
 use tetra_fields::enums::reservation_requirement;
@@ -17,7 +18,8 @@ ghost use Prim.Native.Nat.{_≤_};
 ghost use lib.ListN.{length};
 ghost use Rattle.tetra_core.specs.Laws.Windows.{Good};
 ghost use Rattle.codec.specs.Header.{within, Reads};
-ghost use Rattle.codec.specs.Row.{RowIs, size};
+ghost use Rattle.codec.specs.Row.{rowBits, RowIs, size};
+ghost use Rattle.codec.specs.Piece.{Writes};
 ghost use Rattle.mac_access.specs.MacAccess.{isNullPdu, isFragStart, readChosen, readOption, optionOut, readMacAccess, macAccessOut, macAccessAt, optionRow, macAccessRow, macAccessSize, optionRefusal, macAccessRefusal, macAccessWrite, macAccessWritten};
 
 // What follows the option flag.
@@ -225,7 +227,7 @@ fn option_size(option: MacAccessOption) -> usize
 
 // The bits of a MAC-ACCESS.
 pub fn mac_access_size(h: MacAccess) -> usize
-    ensures { λ r. ⌜ (r ≡ macAccessSize h) × (r ≤ 64) ⌝ }
+    ensures { λ r. ⌜ (r ≡ macAccessSize h) × (r ≤ 37) ⌝ }
 {
     let addr = h.addr;
     let option = h.option;
@@ -255,24 +257,26 @@ fn mac_access_word(h: MacAccess) -> u64
     }
 }
 
+// A MAC-ACCESS on its way to being written.
+fn mac_access_part(h: MacAccess) -> Part
+    ensures { λ r. ⌜ Writes (macAccessRefusal h) (rowBits (macAccessRow h)) r ⌝ }
+{
+    let number = mac_access_refusal(h);
+    if number != 0 {
+        return piece::refused(number);
+    }
+    Part {
+        number,
+        piece: Piece {
+            value: mac_access_word(h),
+            bits: mac_access_size(h),
+        },
+    }
+}
+
 // Writes a MAC-ACCESS at the cursor.
 pub fn to_bitbuf(s: &mut [u8], c: Cursor, h: MacAccess) -> Moved
     ensures { λ r. ⌜ (r ≡ macAccessWrite (now (s .entry)) c h) × (now (s .exit) ≡ macAccessWritten (now (s .entry)) c h) ⌝ }
 {
-    let value = mac_access_refusal(h);
-    let n = mac_access_size(h);
-    let number = codec::write_refusal(s.len(), c, value, n);
-    if number != 0 {
-        return Moved {
-            cursor: c,
-            answer: Outcome::Refused(number),
-        };
-    }
-    let pos = c.pos;
-    let x = mac_access_word(h);
-    word::put_bits(s, pos, n, x);
-    Moved {
-        cursor: codec::moved_by(c, n),
-        answer: Outcome::Done,
-    }
+    piece::write_part(s, c, mac_access_part(h))
 }

@@ -1,10 +1,11 @@
 // Clause 21.4.2.3, MAC-DATA: PDU type 2, fill 1, encrypted 1, address type 2, address, selector 1 and 6 bits more.
-use bits::word;
+use codec::piece;
+use codec::piece::Part;
+use codec::piece::Piece;
 use tetra_core::address::UplinkAddress;
 use tetra_core::bitbuffer;
 use tetra_core::bitbuffer::Cursor;
 use tetra_core::bitbuffer::Moved;
-use tetra_core::bitbuffer::Outcome;
 use tetra_core::refusal;
 use tetra_core::refusal::Refusal;
 use tetra_fields::enums::reservation_requirement;
@@ -17,7 +18,8 @@ ghost use Prim.Native.Nat.{_≤_};
 ghost use lib.ListN.{length};
 ghost use Rattle.tetra_core.specs.Laws.Windows.{Good};
 ghost use Rattle.codec.specs.Header.{within, Reads};
-ghost use Rattle.codec.specs.Row.{RowIs};
+ghost use Rattle.codec.specs.Row.{rowBits, RowIs};
+ghost use Rattle.codec.specs.Piece.{Writes};
 ghost use Rattle.mac_data.specs.MacData.{readOption, optionOut, readMacData, macDataOut, macDataAt, optionRow, macDataRow, macDataSize, optionRefusal, macDataRefusal, macDataWrite, macDataWritten};
 
 // What follows the address.
@@ -171,7 +173,7 @@ pub fn mac_data_refusal(h: MacData) -> u8
 
 // The bits of a MAC-DATA.
 pub fn mac_data_size(h: MacData) -> usize
-    ensures { λ r. ⌜ (r ≡ macDataSize h) × (r ≤ 64) ⌝ }
+    ensures { λ r. ⌜ (r ≡ macDataSize h) × (r ≤ 37) ⌝ }
 {
     let addr = h.addr;
     uplink_head::uplink_size(2, addr) + 7
@@ -207,24 +209,26 @@ fn mac_data_word(h: MacData) -> u64
     head * 128 + option_word(option)
 }
 
+// A MAC-DATA on its way to being written.
+fn mac_data_part(h: MacData) -> Part
+    ensures { λ r. ⌜ Writes (macDataRefusal h) (rowBits (macDataRow h)) r ⌝ }
+{
+    let number = mac_data_refusal(h);
+    if number != 0 {
+        return piece::refused(number);
+    }
+    Part {
+        number,
+        piece: Piece {
+            value: mac_data_word(h),
+            bits: mac_data_size(h),
+        },
+    }
+}
+
 // Writes a MAC-DATA at the cursor.
 pub fn to_bitbuf(s: &mut [u8], c: Cursor, h: MacData) -> Moved
     ensures { λ r. ⌜ (r ≡ macDataWrite (now (s .entry)) c h) × (now (s .exit) ≡ macDataWritten (now (s .entry)) c h) ⌝ }
 {
-    let value = mac_data_refusal(h);
-    let n = mac_data_size(h);
-    let number = codec::write_refusal(s.len(), c, value, n);
-    if number != 0 {
-        return Moved {
-            cursor: c,
-            answer: Outcome::Refused(number),
-        };
-    }
-    let pos = c.pos;
-    let x = mac_data_word(h);
-    word::put_bits(s, pos, n, x);
-    Moved {
-        cursor: codec::moved_by(c, n),
-        answer: Outcome::Done,
-    }
+    piece::write_part(s, c, mac_data_part(h))
 }

@@ -1,8 +1,8 @@
 // Clause 21.4.3.1, the optional elements: power control, slot granting and channel allocation, each behind a flag of its own.
-use crate::piece;
-use crate::piece::Part;
-use crate::piece::Piece;
 use codec::Ahead;
+use codec::piece;
+use codec::piece::Part;
+use codec::piece::Piece;
 use tetra_core::bitbuffer::Cursor;
 use tetra_core::refusal;
 use tetra_core::refusal::Refusal;
@@ -13,14 +13,13 @@ use tetra_fields::fields::channel_allocation::ChanAllocElement;
 ghost use mathlib.Core.Path.{_≡_};
 ghost use mathlib.Core.Bool.{true};
 ghost use mathlib.Core.List.{_++_};
-ghost use Prim.Native.Nat.{_+_, _*_, _^_, _≤_, _<_};
+ghost use Prim.Native.Nat.{_≤_};
 ghost use lib.ListN.{length};
-ghost use Rattle.bits.specs.Bits.{putBits};
 ghost use Rattle.tetra_core.specs.Laws.Windows.{Good};
 ghost use Rattle.codec.specs.Header.{within, Reads};
 ghost use Rattle.codec.specs.Ahead.{Held, NextBits, Ready, ReadsNext};
 ghost use Rattle.codec.specs.Row.{rowBits};
-ghost use Rattle.mac_resource.specs.Piece.{Holds, Writes};
+ghost use Rattle.codec.specs.Piece.{Holds, Writes};
 ghost use Rattle.mac_resource.specs.Elements.{noElements, readPower, powerOut, readGranting, grantingOut, readAllocation, allocationOut, readElements, elementsOut, powerRefusal, grantingRefusal, allocationRefusal, elementsRefusal, powerLen, grantingLen, allocationLen, elementsLen, allocationLenRefusal, powerRow, grantingRow, flagRow, allocationBits, elementsBits};
 
 pub enum PowerControl {

@@ -1,5 +1,4 @@
 -- The laws of the fields that other crates cite.
-pub mod Rows
 pub mod BasicSlotgrant
 pub mod ChannelAllocation
 pub mod ReservationRequirement

@@ -2,6 +2,8 @@
 // kind, first and second number; whether there is a power control, power control; whether there is a slot grant, its 3 words; whether there
 // is a channel allocation, its 9 words. What there is not is read as 0 and not looked at when written. A library apart from tetra_mac: there
 // the readers and writers of an element have a caller more, and the compiler would not put them here.
+use codec::piece;
+use codec::piece::Part;
 use mac_resource::added;
 use mac_resource::added::AddedHeader;
 use mac_resource::elements;
@@ -14,8 +16,6 @@ use mac_resource::mac_resource::HeaderLen;
 use mac_resource::mac_resource::LenAndFill;
 use mac_resource::mac_resource::MacResource;
 use mac_resource::mac_resource::MacResourceAnswer;
-use mac_resource::piece;
-use mac_resource::piece::Part;
 use tetra_core::address::TetraAddress;
 use tetra_core::bitbuffer;
 use tetra_core::bitbuffer::Cursor;

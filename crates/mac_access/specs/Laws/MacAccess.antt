@@ -16,13 +16,12 @@ use Rattle.tetra_core.specs.declared.bitbuffer.Cursor.{Cursor}
 use Rattle.tetra_core.specs.declared.bitbuffer.Outcome.the-variants.{Done}
 use Rattle.codec.specs.Reader.{got, run}
 use Rattle.codec.specs.Header.{within}
-use Rattle.codec.specs.Row.{size, rowBits, RowFits}
+use Rattle.codec.specs.Row.{size, rowBits, RowFits, rows-append}
 use Rattle.codec.specs.Write.{refusalAt, free}
 use Rattle.codec.specs.Back.{gives, written-back}
 use Rattle.codec.specs.Again.{Every, spelt, read-at, written-again}
 use Rattle.codec.specs.Cases.{flag-back, flag-again, one-again}
 use Rattle.tetra_fields.specs.UplinkAddress.{encryptionRefusal}
-use Rattle.tetra_fields.specs.Laws.Rows.{rows-append}
 use Rattle.tetra_fields.specs.Laws.ReservationRequirement.{reservation-back, reservation-again}
 use Rattle.tetra_fields.specs.Laws.UplinkHead.{allowed, allowed-test, uplink-length, uplink-back, uplink-every}
 use Rattle.mac_access.specs.MacAccess.{headOf, macAccessOf, readRequest, readChosen, readOption, readMacAccess, macAccessAt, optionRefusal, macAccessRefusal, optionRow, macAccessRow, macAccessSize, macAccessWrite, macAccessWritten, normal}

@@ -17,14 +17,13 @@ use Rattle.tetra_core.specs.declared.bitbuffer.Cursor.{Cursor}
 use Rattle.tetra_core.specs.declared.bitbuffer.Outcome.the-variants.{Done}
 use Rattle.codec.specs.Reader.{got, run}
 use Rattle.codec.specs.Header.{within}
-use Rattle.codec.specs.Row.{size, rowBits, RowFits}
+use Rattle.codec.specs.Row.{size, rowBits, RowFits, rows-append}
 use Rattle.codec.specs.Write.{refusalAt, free}
 use Rattle.codec.specs.Back.{gives, written-back}
 use Rattle.codec.specs.Again.{Every, spelt, read-at, read-bits, written-again}
 use Rattle.codec.specs.Cases.{flag-back, flag-again, one-again}
 use Rattle.tetra_fields.specs.UplinkAddress.{encryptionRefusal}
 use Rattle.tetra_fields.specs.UplinkHead.{uplinkRow}
-use Rattle.tetra_fields.specs.Laws.Rows.{rows-append}
 use Rattle.tetra_fields.specs.Laws.ReservationRequirement.{reservation-back, reservation-again}
 use Rattle.tetra_fields.specs.Laws.UplinkHead.{allowed, allowed-test, uplink-length, uplink-back, uplink-every}
 use Rattle.mac_data.specs.MacData.{headOf, macDataOf, readRequest, readOption, readMacData, macDataAt, optionRefusal, macDataRefusal, optionRow, macDataRow, macDataSize, macDataWrite, macDataWritten, normal, reservedBit}

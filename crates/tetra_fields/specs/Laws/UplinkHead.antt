@@ -16,13 +16,12 @@ use Rattle.bits.specs.Laws.Values.{digit-lt}
 use Rattle.tetra_core.specs.declared.address.UplinkAddress.{UplinkAddress}
 use Rattle.codec.specs.Reader.{got, Reader, done, run, run-bind, _>>=_}
 use Rattle.codec.specs.Feed.{field-alone}
-use Rattle.codec.specs.Row.{Cell, cell, size, rowBits, RowFits, RowIs, length-row, join-bits, row-is}
+use Rattle.codec.specs.Row.{Cell, cell, size, rowBits, RowFits, RowIs, length-row, join-bits, row-is, rows-append, rows-joined, one-cell}
 use Rattle.codec.specs.Back.{gives}
 use Rattle.codec.specs.Again.{Every, every-bind}
 use Rattle.codec.specs.Cases.{flag-back, flag-again}
 use Rattle.tetra_fields.specs.UplinkAddress.{uplinkWidth, uplinkNumber, readUplinkAddress, encryptionRefusal, uplinkAddressRefusal, uplinkAddressRow}
 use Rattle.tetra_fields.specs.UplinkHead.{readUplinkBody, readUplinkHead, uplinkRefusal, uplinkBodyRow, uplinkRow, bodySize, uplinkSize, normalHead}
-use Rattle.tetra_fields.specs.Laws.Rows.{rows-append, rows-joined, one-cell}
 use Rattle.tetra_fields.specs.Laws.UplinkAddress.{type-lt, number-fits, address-back, type-again, number-again}
 use Rattle.tetra_fields.specs.declared.fields.uplink_head.UplinkHead.{UplinkHead}
 

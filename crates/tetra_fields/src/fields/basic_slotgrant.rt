@@ -3,20 +3,19 @@ use crate::enums::basic_slotgrant_cap_alloc as cap_alloc;
 use crate::enums::basic_slotgrant_cap_alloc::BasicSlotgrantCapAlloc;
 use crate::enums::basic_slotgrant_granting_delay as granting_delay;
 use crate::enums::basic_slotgrant_granting_delay::BasicSlotgrantGrantingDelay;
-use bits::word;
 use codec::Ahead;
+use codec::piece;
+use codec::piece::Part;
+use codec::piece::Piece;
 use tetra_core::bitbuffer;
 use tetra_core::bitbuffer::Cursor;
 use tetra_core::bitbuffer::Moved;
-use tetra_core::bitbuffer::Outcome;
 use tetra_core::refusal;
 use tetra_core::refusal::Refusal;
 ghost use mathlib.Core.Path.{_≡_};
-ghost use Prim.Native.Nat.{_+_, _*_, _≤_};
-ghost use lib.ListN.{length};
-ghost use Rattle.bits.specs.Bits.{putBits};
 ghost use Rattle.codec.specs.Ahead.{Ready, ReadsNext};
 ghost use Rattle.codec.specs.Row.{rowBits, RowIs};
+ghost use Rattle.codec.specs.Piece.{Writes};
 ghost use Rattle.tetra_fields.specs.BasicSlotgrant.{readSlotgrant, slotgrantOut, slotgrantAt, slotgrantRow, slotgrantRefusal, slotgrantWrite, slotgrantWritten};
 
 pub struct BasicSlotgrant {
@@ -137,31 +136,26 @@ pub fn slotgrant_word(g: BasicSlotgrant) -> u64
     cap_alloc::into_raw(capacity) * 16 + granting_delay::into_raw(delay)
 }
 
-// Puts a slot grant into s from pos on.
-fn put_slotgrant(s: &mut [u8], pos: usize, g: BasicSlotgrant)
-    requires { ⌜ (pos + 8 ≤ 8 * length (now s)) × (pos ≤ 65536) × (slotgrantRefusal g ≡ 0) ⌝ }
-    ensures { λ r. ⌜ now (s .exit) ≡ putBits (now (s .entry)) pos (rowBits (slotgrantRow g)) ⌝ }
+// A slot grant on its way to being written.
+fn slotgrant_part(g: BasicSlotgrant) -> Part
+    ensures { λ r. ⌜ Writes (slotgrantRefusal g) (rowBits (slotgrantRow g)) r ⌝ }
 {
-    let x = slotgrant_word(g);
-    word::put_bits(s, pos, 8, x);
+    let number = slotgrant_refusal(g);
+    if number != 0 {
+        return piece::refused(number);
+    }
+    Part {
+        number,
+        piece: Piece {
+            value: slotgrant_word(g),
+            bits: 8,
+        },
+    }
 }
 
 // Writes a slot grant at the cursor.
 pub fn to_bitbuf(s: &mut [u8], c: Cursor, g: BasicSlotgrant) -> Moved
     ensures { λ r. ⌜ (r ≡ slotgrantWrite (now (s .entry)) c g) × (now (s .exit) ≡ slotgrantWritten (now (s .entry)) c g) ⌝ }
 {
-    let value = slotgrant_refusal(g);
-    let number = codec::write_refusal(s.len(), c, value, 8);
-    if number != 0 {
-        return Moved {
-            cursor: c,
-            answer: Outcome::Refused(number),
-        };
-    }
-    let pos = c.pos;
-    put_slotgrant(s, pos, g);
-    Moved {
-        cursor: codec::moved_by(c, 8),
-        answer: Outcome::Done,
-    }
+    piece::write_part(s, c, slotgrant_part(g))
 }

@@ -3,21 +3,22 @@ use crate::enums::alloc_type;
 use crate::enums::alloc_type::ChanAllocType;
 use crate::enums::ul_dl_assignment;
 use crate::enums::ul_dl_assignment::UlDlAssignment;
-use bits::word;
 use codec::Ahead;
+use codec::piece;
+use codec::piece::Part;
+use codec::piece::Piece;
 use tetra_core::bitbuffer;
 use tetra_core::bitbuffer::Cursor;
 use tetra_core::bitbuffer::Moved;
-use tetra_core::bitbuffer::Outcome;
 use tetra_core::quantity::Bits;
 use tetra_core::refusal;
 use tetra_core::refusal::Refusal;
 ghost use mathlib.Core.Path.{_≡_};
-ghost use Prim.Native.Nat.{_+_, _*_, _^_, _≤_, _<_};
-ghost use lib.ListN.{length};
-ghost use Rattle.bits.specs.Bits.{bitsOfNat, putBits};
+ghost use Prim.Native.Nat.{_^_, _≤_, _<_};
+ghost use Rattle.bits.specs.Bits.{bitsOfNat};
 ghost use Rattle.codec.specs.Ahead.{Ready, ReadsNext};
 ghost use Rattle.codec.specs.Row.{RowIs};
+ghost use Rattle.codec.specs.Piece.{Writes};
 ghost use Rattle.tetra_fields.specs.ChannelAllocation.{timeslotsOf, timeslotsNumber, frame18Number, readMonPatterns, monPatternsOut, elementOf, readChannelAllocation, channelAllocationOut, channelAllocationAt, frame18Refusal, lenRefusal, channelAllocationRefusal, channelAllocationRow, channelAllocationBits, channelAllocationLen, computeLen, channelAllocationWrite, channelAllocationWritten};
 
 // The timeslots assigned, slot 1 first.
@@ -374,33 +375,26 @@ pub fn channel_allocation_word(e: ChanAllocElement) -> u64
     x
 }
 
-// Puts a channel allocation into s from pos on.
-fn put_channel_allocation(s: &mut [u8], pos: usize, e: ChanAllocElement)
-    requires { ⌜ (pos + channelAllocationLen e ≤ 8 * length (now s)) × (pos ≤ 65536) × (channelAllocationRefusal e ≡ 0) ⌝ }
-    ensures { λ r. ⌜ now (s .exit) ≡ putBits (now (s .entry)) pos (channelAllocationBits e) ⌝ }
+// A channel allocation on its way to being written.
+fn channel_allocation_part(e: ChanAllocElement) -> Part
+    ensures { λ r. ⌜ Writes (channelAllocationRefusal e) (channelAllocationBits e) r ⌝ }
 {
-    let x = channel_allocation_word(e);
-    let size = allocation_len(e);
-    word::put_bits(s, pos, size, x);
+    let number = channel_allocation_refusal(e);
+    if number != 0 {
+        return piece::refused(number);
+    }
+    Part {
+        number,
+        piece: Piece {
+            value: channel_allocation_word(e),
+            bits: allocation_len(e),
+        },
+    }
 }
 
 // Writes a channel allocation at the cursor.
 pub fn to_bitbuf(s: &mut [u8], c: Cursor, e: ChanAllocElement) -> Moved
     ensures { λ r. ⌜ (r ≡ channelAllocationWrite (now (s .entry)) c e) × (now (s .exit) ≡ channelAllocationWritten (now (s .entry)) c e) ⌝ }
 {
-    let value = channel_allocation_refusal(e);
-    let size = allocation_len(e);
-    let number = codec::write_refusal(s.len(), c, value, size);
-    if number != 0 {
-        return Moved {
-            cursor: c,
-            answer: Outcome::Refused(number),
-        };
-    }
-    let pos = c.pos;
-    put_channel_allocation(s, pos, e);
-    Moved {
-        cursor: codec::moved_by(c, size),
-        answer: Outcome::Done,
-    }
+    piece::write_part(s, c, channel_allocation_part(e))
 }

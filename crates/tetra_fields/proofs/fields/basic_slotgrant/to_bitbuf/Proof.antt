@@ -1,36 +1,14 @@
-use mathlib.Core.Path.{sym, _∙_}
 use native.Mathlib.Omega.{arith}
 use borrow.Author.Needs.{needs}
-use Rattle.codec.specs.Write.{free, write-refused, write-done}
+use Rattle.codec.specs.Piece.{writable, part-written}
 use Rattle.tetra_fields.specs.Laws.BasicSlotgrant.{slotgrant-length}
 use Rattle.tetra_fields.proofs.fields.basic_slotgrant.to_bitbuf.Statement.{statement}
 use Rattle.tetra_fields.proofs.fields.basic_slotgrant.to_bitbuf.Tie as tie
 
 returns : tie.Need-returns
 returns c =
-    let w = c .before in
-    write-refused _ _ _ (slotgrant-length _) (w .before .slotgrant-refusal .ensures) (w .write-refusal .ensures) (c .if1 .taken)
-
-put-slotgrant-requires : tie.Need-put-slotgrant-requires
-put-slotgrant-requires c κs =
-    let w = c .before .before in
-    let f = free _ _ _ _ (sym (w .write-refusal .ensures) ∙ c .before .if1 .left) in
-    let g = f .good in
-    (omega arith, omega arith, sym (w .before .slotgrant-refusal .ensures) ∙ f .value)
-
-moved-by-requires : tie.Need-moved-by-requires
-moved-by-requires c κs =
-    let e = c .before .before .before .before in
-    free _ _ _ _ (sym (e .before .write-refusal .ensures) ∙ e .if1 .left) .room
-
-returns-2 : tie.Need-returns-2
-returns-2 c =
-    let p = c .before .before .before in
-    let e = p .before .before in
-    let w = e .before in
-    rw (c .moved-by .ensures)
-    (write-done _ _ _ (slotgrant-length _) (w .before .slotgrant-refusal .ensures) (w .write-refusal .ensures) (e .if1 .left) (p .put-slotgrant .ensures))
+    let p = c .before .before in
+    part-written _ _ (p .before .slotgrant-part .ensures) (p .write-part .ensures)
 
 pub to-bitbuf-spec : {M : Type 1} → statement M
-to-bitbuf-spec =
-    tie.close (tie.spec (λ c κs. search needs) (λ c κs. search needs) returns put-slotgrant-requires moved-by-requires (λ c. search needs) returns-2)
+to-bitbuf-spec = tie.close (tie.spec (λ c κs. search needs) (λ c κs. writable (c .slotgrant-part .ensures) (omega (arith, slotgrant-length (c .before .before .before .args .g)))) (λ c. search needs) returns)

@@ -10,7 +10,7 @@ ghost use lib.ListN.{length};
 ghost use Rattle.bits.specs.Bits.{putBits};
 ghost use Rattle.tetra_core.specs.Refusal.{first};
 ghost use Rattle.tetra_core.specs.BitBuffer.{bytesAfter};
-ghost use Rattle.mac_resource.specs.Piece.{pieceBits, Holds, Puttable, Sound, partWrite, partWritten, partsWrite, partsWritten};
+ghost use Rattle.codec.specs.Piece.{pieceBits, Holds, Puttable, Sound, partWrite, partWritten, partsWrite, partsWritten};
 
 // The low bits of a number.
 pub struct Piece {
@@ -19,7 +19,7 @@ pub struct Piece {
 }
 
 // Two pieces, one after the other.
-pub(crate) fn joined(a: Piece, b: Piece) -> Piece
+pub fn joined(a: Piece, b: Piece) -> Piece
     requires { ⌜ (a .value < 2 ^ a .bits) × (b .value < 2 ^ b .bits) × (a .bits + b .bits ≤ 63) ⌝ }
     ensures { λ r. ⌜ Holds (pieceBits a ++ pieceBits b) (a .bits + b .bits) r ⌝ }
 {
@@ -40,7 +40,7 @@ pub struct Part {
 }
 
 // What else a refused part holds is not looked at.
-pub(crate) fn refused(number: u8) -> Part
+pub fn refused(number: u8) -> Part
     ensures { λ r. ⌜ (r .number ≡ number) × (r .piece .bits ≡ 0) ⌝ }
 {
     Part {
@@ -50,7 +50,7 @@ pub(crate) fn refused(number: u8) -> Part
 }
 
 // Puts two pieces into s from pos on, one after the other: by one write where a word holds both.
-pub(crate) fn put_both(s: &mut [u8], pos: usize, a: Piece, b: Piece)
+pub fn put_both(s: &mut [u8], pos: usize, a: Piece, b: Piece)
     requires { ⌜ Puttable (length (now s)) pos a b ⌝ }
     ensures { λ r. ⌜ now (s .exit) ≡ putBits (now (s .entry)) pos (pieceBits a ++ pieceBits b) ⌝ }
 {
@@ -104,7 +104,7 @@ pub fn write_part(s: &mut [u8], c: Cursor, a: Part) -> Moved
 {
     let p = a.piece;
     let size = p.bits;
-    let number = codec::write_refusal(s.len(), c, a.number, size);
+    let number = crate::write_refusal(s.len(), c, a.number, size);
     let pos = c.pos;
     put_one_unless(s, pos, number, p);
     bitbuffer::moved_unless(c, number, size)
@@ -119,7 +119,7 @@ pub fn write_parts(s: &mut [u8], c: Cursor, a: Part, b: Part) -> Moved
     let q = b.piece;
     let value = first_of(a.number, b.number);
     let size = p.bits + q.bits;
-    let number = codec::write_refusal(s.len(), c, value, size);
+    let number = crate::write_refusal(s.len(), c, value, size);
     let pos = c.pos;
     put_unless(s, pos, number, p, q);
     bitbuffer::moved_unless(c, number, size)

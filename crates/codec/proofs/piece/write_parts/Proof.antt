@@ -2,10 +2,10 @@ use borrow.Author.Needs.{needs}
 use mathlib.Core.Path.{sym, _∙_}
 use native.Mathlib.Omega.{arith}
 use Rattle.tetra_core.specs.Refusal.{first-none}
 use Rattle.codec.specs.Write.{writeAt, writtenAt, free}
-use Rattle.mac_resource.proofs.Pieces.{pieces-size}
-use Rattle.mac_resource.proofs.piece.write_parts.Statement.{statement}
-use Rattle.mac_resource.proofs.piece.write_parts.Tie as tie
+use Rattle.codec.specs.Piece.{pieces-size}
+use Rattle.codec.proofs.piece.write_parts.Statement.{statement}
+use Rattle.codec.proofs.piece.write_parts.Tie as tie
 
 put-unless-requires : tie.Need-put-unless-requires
 put-unless-requires c κs z =

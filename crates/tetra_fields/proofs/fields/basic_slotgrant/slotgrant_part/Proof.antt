@@ -1,0 +1,17 @@
+use mathlib.Core.Path.{sym, _∙_}
+use native.Mathlib.Omega.{arith}
+use borrow.Author.Needs.{needs}
+use Rattle.codec.specs.Piece.{row-holds, refused-writes, piece-writes}
+use Rattle.tetra_fields.proofs.fields.basic_slotgrant.slotgrant_part.Statement.{statement}
+use Rattle.tetra_fields.proofs.fields.basic_slotgrant.slotgrant_part.Tie as tie
+
+returns : tie.Need-returns
+returns c = refused-writes (c .refused .ensures) (c .before .before .slotgrant-refusal .ensures) (c .before .if1 .taken)
+
+returns-2 : tie.Need-returns-2
+returns-2 c = piece-writes (c .before .before .slotgrant-refusal .ensures) (omega arith) (row-holds (c .slotgrant-word .ensures))
+
+pub slotgrant-part-spec : {M : Type 1} → statement M
+slotgrant-part-spec =
+    tie.close
+    (tie.spec (λ c κs. search needs) (λ c κs. search needs) returns (λ c κs. sym (c .before .slotgrant-refusal .ensures) ∙ c .if1 .left) returns-2)
