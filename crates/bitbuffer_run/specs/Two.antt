@@ -3,7 +3,7 @@ use Prim.Native.Nat.{ℕ}
 use mathlib.Core.List.{List}
 use Rattle.tetra_core.specs.BitBuffer.{readBits}
 use Rattle.tetra_core.specs.declared.bitbuffer.Cursor.{Cursor}
-use Rattle.bitbuffer_run.specs.declared.Two.{Two}
+use Rattle.bitbuffer_run.specs.declared.lent.Two.{Two}
 
 abbrev pub twoOf : List ℕ → Cursor → ℕ → ℕ → Two
 twoOf s c n m = record {

@@ -1,4 +1,4 @@
--- `bitbuffer_run::read_two` meets its contract: a walk of its MIR, by hand. A local cursor is lent to `read_field` for one call, comes back, and is lent again (`Loan.antt`). Between the calls the context has one form, so that each further field repeats the lines of one call. All that the proof knows of `read_field` is that it meets its contract.
+-- `bitbuffer_run::lent::read_two` meets its contract: a walk of its MIR, by hand. A local cursor is lent to `read_field` for one call, comes back, and is lent again (`Loan.antt`). Between the calls the context has one form, so that each further field repeats the lines of one call. All that the proof knows of `read_field` is that it meets its contract.
 -- Assumes nothing.
 use mathlib.Core.Path.{_≡_, refl, ap, subst, _∙_}
 use Prim.Native.Nat.{ℕ, _<_, _^_}
@@ -44,22 +44,22 @@ use Rattle.tetra_core.specs.BitBuffer.{readBits}
 use Rattle.tetra_core.specs.declared.bitbuffer.Cursor.{Cursor}
 use Rattle.tetra_core.specs.declared.bitbuffer.BitsAnswer.{BitsAnswer}
 use Rattle.bitbuffer_run.specs.Two.{twoOf}
-use Rattle.bitbuffer_run.specs.declared.Two.{Two}
+use Rattle.bitbuffer_run.specs.declared.lent.Two.{Two}
 use Rattle.bitbuffer_run.proofs.Loan.{Lent, ref, lends, comes-back}
 use Rattle.tetra_core.proofs.bitbuffer.Cursor as T
 use Rattle.tetra_core.proofs.bitbuffer.Cursor.Laws as T′
 use Rattle.tetra_core.proofs.bitbuffer.BitsAnswer as S
 use Rattle.tetra_core.proofs.bitbuffer.BitsAnswer.Laws as S′
-use Rattle.bitbuffer_run.proofs.Two as R
-use Rattle.bitbuffer_run.proofs.Two.Laws as R′
+use Rattle.bitbuffer_run.proofs.lent.Two as R
+use Rattle.bitbuffer_run.proofs.lent.Two.Laws as R′
 use Rattle.field_calls.proofs.read_field as g
 use Rattle.field_calls.proofs.read_field.Symbol as g-def
 use Rattle.field_calls.proofs.read_field.Symbol.{name as #g}
 use Rattle.field_calls.proofs.read_field.Met as g-thm
-use Rattle.bitbuffer_run.proofs.read_two.Key.{name as #f}
-use Rattle.bitbuffer_run.proofs.read_two as f
-use Rattle.bitbuffer_run.proofs.read_two.Statement as stated
-use Rattle.bitbuffer_run.proofs.read_two.Code as code
+use Rattle.bitbuffer_run.proofs.lent.read_two.Key.{name as #f}
+use Rattle.bitbuffer_run.proofs.lent.read_two as f
+use Rattle.bitbuffer_run.proofs.lent.read_two.Statement as stated
+use Rattle.bitbuffer_run.proofs.lent.read_two.Code as code
 
 abbrev stayed : Stays (f.ended .signature .params) (f.ended .kept)
 stayed = (stay-none-slice (0 ∷ []) tt (plain (λ _. u8)) yes, (stay-none (λ _. T.the-row) yes, (stay-none (λ _. usize) yes, (stay-none (λ _. usize) yes, tt))))

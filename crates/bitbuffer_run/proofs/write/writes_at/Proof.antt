@@ -1,28 +1,26 @@
-use lib.ListN.{length}
 use Prim.Native.Nat.{_-_, _≤_}
 use borrow.Author.Needs.{needs}
-use Rattle.headers_run.proofs.bytes.Statement.{statement}
-use Rattle.headers_run.proofs.bytes.Tie as tie
+use Rattle.bitbuffer_run.proofs.write.writes_at.Statement.{statement}
+use Rattle.bitbuffer_run.proofs.write.writes_at.Tie as tie
 
 abbrev Inv-loop : tie.InvT-loop
-Inv-loop s i₀ i = i ≤ length s
+Inv-loop pos n₀ n = (1 ≤ n) × (n ≤ 65)
 
 abbrev μ-loop : tie.MeasureT-loop
-μ-loop s i₀ i = length s - i
+μ-loop pos n₀ n = 65 - n
 
-pub bytes-spec : {M : Type 1} → statement M
-bytes-spec =
+pub writes-at-spec : {M : Type 1} → statement M
+writes-at-spec =
     tie.close
     (tie.spec
     Inv-loop
     μ-loop
-    (λ c. search needs)
     (λ c κs. search needs)
     (λ c. search needs)
     (λ c. search needs)
     (λ c κs. search needs)
+    (λ c. search needs)
+    (λ c. search needs)
+    (λ c. search needs)
     (λ c κs. search needs)
-    (λ c. search needs)
-    (λ c. search needs)
-    (λ c. search needs)
     (λ c. search needs))

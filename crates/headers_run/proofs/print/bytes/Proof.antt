@@ -1,27 +1,25 @@
+use lib.ListN.{length}
 use Prim.Native.Nat.{_-_, _≤_}
 use borrow.Author.Needs.{needs}
-use Rattle.bitbuffer_run.proofs.reads_at.Statement.{statement}
-use Rattle.bitbuffer_run.proofs.reads_at.Tie as tie
+use Rattle.headers_run.proofs.print.bytes.Statement.{statement}
+use Rattle.headers_run.proofs.print.bytes.Tie as tie
 
 abbrev Inv-loop : tie.InvT-loop
-Inv-loop pos s n₀ t4 n = n ≤ 66
+Inv-loop s i₀ i = i ≤ length s
 
 abbrev μ-loop : tie.MeasureT-loop
-μ-loop pos s n₀ t4 n = 66 - n
+μ-loop s i₀ i = length s - i
 
-pub reads-at-spec : {M : Type 1} → statement M
-reads-at-spec =
+pub bytes-spec : {M : Type 1} → statement M
+bytes-spec =
     tie.close
     (tie.spec
     Inv-loop
     μ-loop
     (λ c. search needs)
-    (λ c. search needs)
-    (λ c κs. search needs)
     (λ c κs. search needs)
     (λ c. search needs)
-    (λ c κs. search needs)
-    (λ c κs. search needs)
+    (λ c. search needs)
     (λ c κs. search needs)
     (λ c κs. search needs)
     (λ c. search needs)

@@ -1,26 +1,28 @@
+use lib.ListN.{length}
 use Prim.Native.Nat.{_-_, _≤_}
 use borrow.Author.Needs.{needs}
-use Rattle.bitbuffer_run.proofs.writes_at.Statement.{statement}
-use Rattle.bitbuffer_run.proofs.writes_at.Tie as tie
+use Rattle.bitbuffer_run.proofs.print.bytes.Statement.{statement}
+use Rattle.bitbuffer_run.proofs.print.bytes.Tie as tie
 
 abbrev Inv-loop : tie.InvT-loop
-Inv-loop pos n₀ n = (1 ≤ n) × (n ≤ 65)
+Inv-loop s i₀ i = i ≤ length s
 
 abbrev μ-loop : tie.MeasureT-loop
-μ-loop pos n₀ n = 65 - n
+μ-loop s i₀ i = length s - i
 
-pub writes-at-spec : {M : Type 1} → statement M
-writes-at-spec =
+pub bytes-spec : {M : Type 1} → statement M
+bytes-spec =
     tie.close
     (tie.spec
     Inv-loop
     μ-loop
-    (λ c κs. search needs)
-    (λ c. search needs)
     (λ c. search needs)
     (λ c κs. search needs)
     (λ c. search needs)
     (λ c. search needs)
-    (λ c. search needs)
     (λ c κs. search needs)
+    (λ c κs. search needs)
+    (λ c. search needs)
+    (λ c. search needs)
+    (λ c. search needs)
     (λ c. search needs))
