@@ -45,7 +45,7 @@ use Rattle.tetra_core.specs.declared.bitbuffer.Cursor.{Cursor}
 use Rattle.tetra_core.specs.declared.bitbuffer.BitsAnswer.{BitsAnswer}
 use Rattle.bitbuffer_run.specs.Two.{twoOf}
 use Rattle.bitbuffer_run.specs.declared.lent.Two.{Two}
-use Rattle.bitbuffer_run.proofs.Loan.{Lent, ref, lends, comes-back}
+use Rattle.tetra_core.specs.Laws.Loan.{Lent, ref, lends, comes-back}
 use Rattle.tetra_core.proofs.bitbuffer.Cursor as T
 use Rattle.tetra_core.proofs.bitbuffer.Cursor.Laws as T′
 use Rattle.tetra_core.proofs.bitbuffer.BitsAnswer as S

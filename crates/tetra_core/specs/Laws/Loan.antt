@@ -1,4 +1,5 @@
--- A local that is lent by `&mut` for one call, for a lifetime below κ, and comes back.
+-- A local that is lent by `&mut` for one call, for a lifetime below κ, and comes back, whatever its type. For proofs by hand of functions that
+-- lend a struct. The callee's bound `'a: 's`, at 's = ν ∷ κ and 'a = κ, is `below`.
 --     Lent ν δ     what the lender keeps: the way back to ν's whole token, and the lender's part of the loan
 --     lends        the local's cell at vs ∗ own h vs ∗ [κ]_q  ⊢ ⇛ ∃ ν δ. own (the `&(ν ∷ κ) mut T` to the local, under δ, at h) ∗ [ν ∷ κ]_left q ∗ [κ]_right q ∗ Lent ν δ
 --     comes-back   ([ν ∷ κ]_left q ∗ [κ]_right q) ∗ Lent ν δ ∗ res δ h′  ⊢ ⇛ ∃ vs. (the local's cell at vs ∗ own h′ vs) ∗ [κ]_q
@@ -13,7 +14,7 @@ use base.Logic.{ent, sep, ex, apply∗}
 use base.Fml.{Lft, GName, Share, Fml, fsep, fwand, flft, fdead, fres, flent}
 use prog.Wp.{Heap}
 use ghost.Atoms.{Atoms, sem}
-use contract.BorrowLft.{meet-⊑-left}
+use contract.BorrowLft.{_⊑_, meet-⊑-left, meet-⊑-right}
 use types.Kit.{Given, ‵, _⊛_, ⋆, some, later, _$_, _∵_, !, qed, move, use1, use2, use3, split, join, pick, fsplit, fjoin, fpick, fpack, frame, await, updating, now as at-once, show, done}
 use types.SemTy.{Body}
 use types.Tokens.{lft-new, lft-end}
@@ -21,6 +22,9 @@ use denote.RattleType.{RattleType}
 use denote.Memory.{mem, cellAt, partOf}
 use denote.Ref.{MutRef}
 use denote.Lend.{lends-ref, ref-back}
+
+pub below : (ν : ℕ) (κ : Lft) → ν ∷ κ ⊑ κ
+below ν κ = meet-⊑-right (ν ∷ []) κ
 
 module _ (R : RattleType) (κ : Lft) (q : Share) (l : ℕ) where
   abbrev pub Lent : ℕ → GName → Fml
