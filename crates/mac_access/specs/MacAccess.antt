@@ -9,8 +9,8 @@ use Rattle.bits.specs.Bits.{digit}
 use Rattle.tetra_core.specs.Refusal.{unless}
 use Rattle.tetra_core.specs.declared.bitbuffer.Cursor.{Cursor}
 use Rattle.tetra_core.specs.declared.bitbuffer.Moved.{Moved}
-use Rattle.codec.specs.Reader.{Out, got, refused, Reader, done, field, choose, _>>=_}
-use Rattle.codec.specs.Header.{atCursor}
+use Rattle.codec.specs.Reader.{Out, got, Reader, done, field, choose, _>>=_}
+use Rattle.codec.specs.Header.{atCursor, partOut}
 use Rattle.codec.specs.Row.{Cell, cell, size, rowBits}
 use Rattle.codec.specs.Write.{writeAt, writtenAt}
 use Rattle.codec.specs.Cases.{flag}
@@ -23,9 +23,7 @@ use Rattle.mac_access.specs.declared.mac_access.MacAccess.{MacAccess}
 use Rattle.mac_access.specs.declared.mac_access.MacAccessAnswer.{MacAccessAnswer}
 use Rattle.mac_access.specs.declared.mac_access.MacAccessRead.{MacAccessRead}
 use Rattle.mac_access.specs.declared.mac_access.MacAccessPart.{MacAccessPart}
-use Rattle.mac_access.specs.declared.mac_access.MacAccessPart.the-variants as Part'
 use Rattle.mac_access.specs.declared.mac_access.OptionPart.{OptionPart}
-use Rattle.mac_access.specs.declared.mac_access.OptionPart.the-variants as Option'
 
 -- what every header has, and the whole
 abbrev pub headOf : MacAccess → UplinkHead
@@ -65,12 +63,10 @@ readMacAccess = do
 
 -- a part's answer as an outcome
 abbrev pub optionOut : List Bool → OptionPart → Out MacAccessOption
-optionOut h (Option'.Read a n) = got a (drop n h) n
-optionOut h (Option'.Refused r) = refused (r .number) (r .bit)
+optionOut h p = partOut (p .refusal) (got (p .option) (drop (p .next) h) (p .next))
 
 abbrev pub macAccessOut : List Bool → MacAccessPart → Out MacAccess
-macAccessOut h (Part'.Read a n) = got a (drop n h) n
-macAccessOut h (Part'.Refused r) = refused (r .number) (r .bit)
+macAccessOut h p = partOut (p .refusal) (got (p .header) (drop (p .next) h) (p .next))
 
 unfoldable pub macAccessAt : List ℕ → Cursor → MacAccessRead
 macAccessAt = atCursor readMacAccess (λ c a. record { cursor = c; answer = a }) MacAccessAnswer.Read MacAccessAnswer.Refused

@@ -1,4 +1,5 @@
 // Clause 21.4.2.1, MAC-ACCESS: PDU type 1, fill 1, encrypted 1, address type 2, address, option flag 1 and, if set, 6 bits more.
+use codec::Ahead;
 use codec::piece;
 use codec::piece::Part;
 use codec::piece::Piece;
@@ -12,15 +13,12 @@ use tetra_fields::enums::reservation_requirement;
 use tetra_fields::enums::reservation_requirement::ReservationRequirement;
 use tetra_fields::fields::uplink_head;
 use tetra_fields::fields::uplink_head::UplinkHead;
-use tetra_fields::fields::uplink_head::UplinkHeadPart;
 ghost use mathlib.Core.Path.{_≡_};
 ghost use Prim.Native.Nat.{_≤_};
-ghost use lib.ListN.{length};
-ghost use Rattle.tetra_core.specs.Laws.Windows.{Good};
-ghost use Rattle.codec.specs.Header.{within, Reads};
+ghost use Rattle.codec.specs.Ahead.{Ready, ReadsNext};
 ghost use Rattle.codec.specs.Row.{rowBits, RowIs, size};
 ghost use Rattle.codec.specs.Piece.{Writes};
-ghost use Rattle.mac_access.specs.MacAccess.{isNullPdu, isFragStart, readChosen, readOption, optionOut, readMacAccess, macAccessOut, macAccessAt, optionRow, macAccessRow, macAccessSize, optionRefusal, macAccessRefusal, macAccessWrite, macAccessWritten};
+ghost use Rattle.mac_access.specs.MacAccess.{macAccessOf, isNullPdu, isFragStart, readChosen, readOption, optionOut, readMacAccess, macAccessOut, macAccessAt, optionRow, macAccessRow, macAccessSize, optionRefusal, macAccessRefusal, macAccessWrite, macAccessWritten};
 
 // What follows the option flag.
 pub enum MacAccessOption {
@@ -51,16 +49,55 @@ pub struct MacAccessRead {
     pub answer: MacAccessAnswer,
 }
 
-// A MAC-ACCESS and the offset after it.
-pub enum MacAccessPart {
-    Read(MacAccess, usize),
-    Refused(Refusal),
+// A MAC-ACCESS: why it is not read, or number 0; and the offset after it.
+pub struct MacAccessPart {
+    pub refusal: Refusal,
+    pub header: MacAccess,
+    pub next: usize,
 }
 
-// What follows the address, and the offset after it.
-pub enum OptionPart {
-    Read(MacAccessOption, usize),
-    Refused(Refusal),
+// The same of what follows the address.
+pub struct OptionPart {
+    pub refusal: Refusal,
+    pub option: MacAccessOption,
+    pub next: usize,
+}
+
+// What else a refused part holds is not looked at.
+fn no_option(refusal: Refusal) -> OptionPart
+    ensures { λ r. ⌜ r .refusal ≡ refusal ⌝ }
+{
+    OptionPart {
+        refusal,
+        option: MacAccessOption::Without,
+        next: 0,
+    }
+}
+
+fn option_read(option: MacAccessOption, next: usize) -> OptionPart
+    ensures { λ r. ⌜ r ≡ record { refusal = record { number = 0; bit = 0 }; option = option; next = next } ⌝ }
+{
+    OptionPart {
+        refusal: Refusal {
+            number: refusal::NONE,
+            bit: 0,
+        },
+        option,
+        next,
+    }
+}
+
+// A MAC-ACCESS of its head and its option.
+fn header_of(head: UplinkHead, option: MacAccessOption) -> MacAccess
+    ensures { λ r. ⌜ r ≡ macAccessOf head option ⌝ }
+{
+    let addr = head.addr;
+    MacAccess {
+        fill_bits: head.fill_bits,
+        encrypted: head.encrypted,
+        addr,
+        option,
+    }
 }
 
 pub fn is_null_pdu(h: MacAccess) -> bool
@@ -85,34 +122,34 @@ pub fn is_frag_start(h: MacAccess) -> bool
     }
 }
 
-// What follows a set option flag, at the offset o of a header.
-fn read_chosen(s: &[u8], c: Cursor, o: usize) -> OptionPart
-    requires { ⌜ Good (length (now s)) c ⌝ }
-    ensures { λ r. ⌜ Reads optionOut readChosen (within (now (s .entry)) c) o r ⌝ }
+// What follows a set option flag, which is ahead.
+fn read_chosen(a: Ahead) -> OptionPart
+    requires { ⌜ Ready a 6 ⌝ }
+    ensures { λ r. ⌜ ReadsNext optionOut readChosen a r ⌝ }
 {
-    let left = codec::left(s, c, o);
+    let left = a.left;
+    let o = a.at;
     if left < 1 {
-        return OptionPart::Refused(Refusal {
+        return no_option(Refusal {
             number: refusal::READ_PAST_END,
             bit: o,
         });
     }
     if left < 6 {
-        let o1 = o + 1;
-        if codec::word(s, c, o, 1) == 0 {
-            return OptionPart::Refused(Refusal {
+        if codec::take(a, 1) == 0 {
+            return no_option(Refusal {
                 number: refusal::READ_PAST_END,
-                bit: o1,
+                bit: o + 1,
             });
         }
         let widths = [1u8, 4];
-        return OptionPart::Refused(codec::short(&widths, left - 1, o1));
+        return no_option(codec::short(&widths, left - 1, o + 1));
     }
-    let x = codec::word(s, c, o, 6);
+    let x = codec::take(a, 6);
     if (x >> 5) % 2 == 0 {
-        return OptionPart::Read(MacAccessOption::LengthInd((x % 32) as u8), o + 6);
+        return option_read(MacAccessOption::LengthInd((x % 32) as u8), o + 6);
     }
-    OptionPart::Read(
+    option_read(
         MacAccessOption::CapacityRequest(
             (x >> 4) % 2 != 0,
             reservation_requirement::from_raw(x % 16),
@@ -121,46 +158,47 @@ fn read_chosen(s: &[u8], c: Cursor, o: usize) -> OptionPart
     )
 }
 
-// The option flag and what follows it, at the offset o of a header.
-fn read_option(s: &[u8], c: Cursor, o: usize) -> OptionPart
-    requires { ⌜ Good (length (now s)) c ⌝ }
-    ensures { λ r. ⌜ Reads optionOut readOption (within (now (s .entry)) c) o r ⌝ }
+// The option flag that is ahead, and what follows it.
+fn read_option(a: Ahead) -> OptionPart
+    requires { ⌜ Ready a 7 ⌝ }
+    ensures { λ r. ⌜ ReadsNext optionOut readOption a r ⌝ }
 {
-    if codec::left(s, c, o) < 1 {
-        return OptionPart::Refused(Refusal {
+    let left = a.left;
+    let o = a.at;
+    if left < 1 {
+        return no_option(Refusal {
             number: refusal::READ_PAST_END,
             bit: o,
         });
     }
-    let o1 = o + 1;
-    if codec::word(s, c, o, 1) == 0 {
-        return OptionPart::Read(MacAccessOption::Without, o1);
+    if codec::take(a, 1) == 0 {
+        return option_read(MacAccessOption::Without, o + 1);
     }
-    read_chosen(s, c, o1)
+    read_chosen(codec::on(a, 1))
 }
 
-// The MAC-ACCESS at the offset o of a window.
-fn read_mac_access(s: &[u8], c: Cursor, o: usize) -> MacAccessPart
-    requires { ⌜ Good (length (now s)) c ⌝ }
-    ensures { λ r. ⌜ Reads macAccessOut readMacAccess (within (now (s .entry)) c) o r ⌝ }
+// A MAC-ACCESS, which is ahead: one word holds it.
+fn read_mac_access(a: Ahead) -> MacAccessPart
+    requires { ⌜ Ready a 37 ⌝ }
+    ensures { λ r. ⌜ ReadsNext macAccessOut readMacAccess a r ⌝ }
 {
-    match uplink_head::read_uplink_head(s, c, o, 1) {
-        UplinkHeadPart::Refused(r) => MacAccessPart::Refused(r),
-        UplinkHeadPart::Read(head, at) => match read_option(s, c, at) {
-            OptionPart::Refused(r) => MacAccessPart::Refused(r),
-            OptionPart::Read(option, n) => {
-                let addr = head.addr;
-                MacAccessPart::Read(
-                    MacAccess {
-                        fill_bits: head.fill_bits,
-                        encrypted: head.encrypted,
-                        addr,
-                        option,
-                    },
-                    n,
-                )
-            }
-        },
+    let first = uplink_head::read_uplink_head(a, 1);
+    let no_head = first.refusal;
+    let head = first.head;
+    if no_head.number != 0 {
+        return MacAccessPart {
+            refusal: no_head,
+            header: header_of(head, MacAccessOption::Without),
+            next: 0,
+        };
+    }
+    let second = read_option(codec::on(a, first.size));
+    let refusal = second.refusal;
+    let option = second.option;
+    MacAccessPart {
+        refusal,
+        header: header_of(head, option),
+        next: second.next,
     }
 }
 
@@ -177,15 +215,18 @@ pub fn from_bitbuf(s: &[u8], c: Cursor) -> MacAccessRead
             }),
         };
     }
-    match read_mac_access(s, c, 0) {
-        MacAccessPart::Read(h, n) => MacAccessRead {
-            cursor: codec::moved_by(c, n),
-            answer: MacAccessAnswer::Read(h),
-        },
-        MacAccessPart::Refused(r) => MacAccessRead {
+    let part = read_mac_access(codec::load(s, c, 0));
+    let refusal = part.refusal;
+    let header = part.header;
+    if refusal.number != 0 {
+        return MacAccessRead {
             cursor: c,
-            answer: MacAccessAnswer::Refused(r),
-        },
+            answer: MacAccessAnswer::Refused(refusal),
+        };
+    }
+    MacAccessRead {
+        cursor: codec::moved_by(c, part.next),
+        answer: MacAccessAnswer::Read(header),
     }
 }
 

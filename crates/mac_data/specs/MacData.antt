@@ -9,8 +9,8 @@ use Rattle.bits.specs.Bits.{digit}
 use Rattle.tetra_core.specs.Refusal.{unless}
 use Rattle.tetra_core.specs.declared.bitbuffer.Cursor.{Cursor}
 use Rattle.tetra_core.specs.declared.bitbuffer.Moved.{Moved}
-use Rattle.codec.specs.Reader.{Out, got, refused, Reader, done, field, choose, _>>=_}
-use Rattle.codec.specs.Header.{atCursor}
+use Rattle.codec.specs.Reader.{Out, got, Reader, done, field, choose, _>>=_}
+use Rattle.codec.specs.Header.{atCursor, partOut}
 use Rattle.codec.specs.Row.{Cell, cell, rowBits}
 use Rattle.codec.specs.Write.{writeAt, writtenAt}
 use Rattle.codec.specs.Cases.{flag}
@@ -23,9 +23,7 @@ use Rattle.mac_data.specs.declared.mac_data.MacData.{MacData}
 use Rattle.mac_data.specs.declared.mac_data.MacDataAnswer.{MacDataAnswer}
 use Rattle.mac_data.specs.declared.mac_data.MacDataRead.{MacDataRead}
 use Rattle.mac_data.specs.declared.mac_data.MacDataPart.{MacDataPart}
-use Rattle.mac_data.specs.declared.mac_data.MacDataPart.the-variants as Part'
 use Rattle.mac_data.specs.declared.mac_data.OptionPart.{OptionPart}
-use Rattle.mac_data.specs.declared.mac_data.OptionPart.the-variants as Option'
 
 -- what every header has, and the whole
 abbrev pub headOf : MacData → UplinkHead
@@ -60,12 +58,10 @@ readMacData = do
 
 -- a part's answer as an outcome
 abbrev pub optionOut : List Bool → OptionPart → Out MacDataOption
-optionOut h (Option'.Read a n) = got a (drop n h) n
-optionOut h (Option'.Refused r) = refused (r .number) (r .bit)
+optionOut h p = partOut (p .refusal) (got (p .option) (drop (p .next) h) (p .next))
 
 abbrev pub macDataOut : List Bool → MacDataPart → Out MacData
-macDataOut h (Part'.Read a n) = got a (drop n h) n
-macDataOut h (Part'.Refused r) = refused (r .number) (r .bit)
+macDataOut h p = partOut (p .refusal) (got (p .header) (drop (p .next) h) (p .next))
 
 unfoldable pub macDataAt : List ℕ → Cursor → MacDataRead
 macDataAt = atCursor readMacData (λ c a. record { cursor = c; answer = a }) MacDataAnswer.Read MacDataAnswer.Refused

@@ -1,4 +1,5 @@
 // Clause 21.4.2.3, MAC-DATA: PDU type 2, fill 1, encrypted 1, address type 2, address, selector 1 and 6 bits more.
+use codec::Ahead;
 use codec::piece;
 use codec::piece::Part;
 use codec::piece::Piece;
@@ -12,15 +13,12 @@ use tetra_fields::enums::reservation_requirement;
 use tetra_fields::enums::reservation_requirement::ReservationRequirement;
 use tetra_fields::fields::uplink_head;
 use tetra_fields::fields::uplink_head::UplinkHead;
-use tetra_fields::fields::uplink_head::UplinkHeadPart;
 ghost use mathlib.Core.Path.{_≡_};
 ghost use Prim.Native.Nat.{_≤_};
-ghost use lib.ListN.{length};
-ghost use Rattle.tetra_core.specs.Laws.Windows.{Good};
-ghost use Rattle.codec.specs.Header.{within, Reads};
+ghost use Rattle.codec.specs.Ahead.{Ready, ReadsNext};
 ghost use Rattle.codec.specs.Row.{rowBits, RowIs};
 ghost use Rattle.codec.specs.Piece.{Writes};
-ghost use Rattle.mac_data.specs.MacData.{readOption, optionOut, readMacData, macDataOut, macDataAt, optionRow, macDataRow, macDataSize, optionRefusal, macDataRefusal, macDataWrite, macDataWritten};
+ghost use Rattle.mac_data.specs.MacData.{macDataOf, readOption, optionOut, readMacData, macDataOut, macDataAt, optionRow, macDataRow, macDataSize, optionRefusal, macDataRefusal, macDataWrite, macDataWritten};
 
 // What follows the address.
 pub enum MacDataOption {
@@ -49,46 +47,85 @@ pub struct MacDataRead {
     pub answer: MacDataAnswer,
 }
 
-// A MAC-DATA and the offset after it.
-pub enum MacDataPart {
-    Read(MacData, usize),
-    Refused(Refusal),
+// A MAC-DATA: why it is not read, or number 0; and the offset after it.
+pub struct MacDataPart {
+    pub refusal: Refusal,
+    pub header: MacData,
+    pub next: usize,
 }
 
-// What follows the address, and the offset after it.
-pub enum OptionPart {
-    Read(MacDataOption, usize),
-    Refused(Refusal),
+// The same of what follows the address.
+pub struct OptionPart {
+    pub refusal: Refusal,
+    pub option: MacDataOption,
+    pub next: usize,
 }
 
-// What follows the address, at the offset o of a header.
-fn read_option(s: &[u8], c: Cursor, o: usize) -> OptionPart
-    requires { ⌜ Good (length (now s)) c ⌝ }
-    ensures { λ r. ⌜ Reads optionOut readOption (within (now (s .entry)) c) o r ⌝ }
+// What else a refused part holds is not looked at.
+fn no_option(refusal: Refusal) -> OptionPart
+    ensures { λ r. ⌜ r .refusal ≡ refusal ⌝ }
 {
-    let left = codec::left(s, c, o);
+    OptionPart {
+        refusal,
+        option: MacDataOption::LengthInd(0),
+        next: 0,
+    }
+}
+
+fn option_read(option: MacDataOption, next: usize) -> OptionPart
+    ensures { λ r. ⌜ r ≡ record { refusal = record { number = 0; bit = 0 }; option = option; next = next } ⌝ }
+{
+    OptionPart {
+        refusal: Refusal {
+            number: refusal::NONE,
+            bit: 0,
+        },
+        option,
+        next,
+    }
+}
+
+// A MAC-DATA of its head and its option.
+fn header_of(head: UplinkHead, option: MacDataOption) -> MacData
+    ensures { λ r. ⌜ r ≡ macDataOf head option ⌝ }
+{
+    let addr = head.addr;
+    MacData {
+        fill_bits: head.fill_bits,
+        encrypted: head.encrypted,
+        addr,
+        option,
+    }
+}
+
+// What follows the address, which is ahead.
+fn read_option(a: Ahead) -> OptionPart
+    requires { ⌜ Ready a 7 ⌝ }
+    ensures { λ r. ⌜ ReadsNext optionOut readOption a r ⌝ }
+{
+    let left = a.left;
+    let o = a.at;
     if left < 1 {
-        return OptionPart::Refused(Refusal {
+        return no_option(Refusal {
             number: refusal::READ_PAST_END,
             bit: o,
         });
     }
     if left < 7 {
-        let o1 = o + 1;
-        if codec::word(s, c, o, 1) == 0 {
-            return OptionPart::Refused(Refusal {
+        if codec::take(a, 1) == 0 {
+            return no_option(Refusal {
                 number: refusal::READ_PAST_END,
-                bit: o1,
+                bit: o + 1,
             });
         }
         let widths = [1u8, 4, 1];
-        return OptionPart::Refused(codec::short(&widths, left - 1, o1));
+        return no_option(codec::short(&widths, left - 1, o + 1));
     }
-    let x = codec::word(s, c, o, 7);
+    let x = codec::take(a, 7);
     if (x >> 6) % 2 == 0 {
-        return OptionPart::Read(MacDataOption::LengthInd((x % 64) as u8), o + 7);
+        return option_read(MacDataOption::LengthInd((x % 64) as u8), o + 7);
     }
-    OptionPart::Read(
+    option_read(
         MacDataOption::CapacityRequest(
             (x >> 5) % 2 != 0,
             reservation_requirement::from_raw((x >> 1) % 16),
@@ -97,28 +134,28 @@ fn read_option(s: &[u8], c: Cursor, o: usize) -> OptionPart
     )
 }
 
-// The MAC-DATA at the offset o of a window.
-fn read_mac_data(s: &[u8], c: Cursor, o: usize) -> MacDataPart
-    requires { ⌜ Good (length (now s)) c ⌝ }
-    ensures { λ r. ⌜ Reads macDataOut readMacData (within (now (s .entry)) c) o r ⌝ }
+// A MAC-DATA, which is ahead: one word holds it.
+fn read_mac_data(a: Ahead) -> MacDataPart
+    requires { ⌜ Ready a 37 ⌝ }
+    ensures { λ r. ⌜ ReadsNext macDataOut readMacData a r ⌝ }
 {
-    match uplink_head::read_uplink_head(s, c, o, 2) {
-        UplinkHeadPart::Refused(r) => MacDataPart::Refused(r),
-        UplinkHeadPart::Read(head, at) => match read_option(s, c, at) {
-            OptionPart::Refused(r) => MacDataPart::Refused(r),
-            OptionPart::Read(option, n) => {
-                let addr = head.addr;
-                MacDataPart::Read(
-                    MacData {
-                        fill_bits: head.fill_bits,
-                        encrypted: head.encrypted,
-                        addr,
-                        option,
-                    },
-                    n,
-                )
-            }
-        },
+    let first = uplink_head::read_uplink_head(a, 2);
+    let no_head = first.refusal;
+    let head = first.head;
+    if no_head.number != 0 {
+        return MacDataPart {
+            refusal: no_head,
+            header: header_of(head, MacDataOption::LengthInd(0)),
+            next: 0,
+        };
+    }
+    let second = read_option(codec::on(a, first.size));
+    let refusal = second.refusal;
+    let option = second.option;
+    MacDataPart {
+        refusal,
+        header: header_of(head, option),
+        next: second.next,
     }
 }
 
@@ -135,15 +172,18 @@ pub fn from_bitbuf(s: &[u8], c: Cursor) -> MacDataRead
             }),
         };
     }
-    match read_mac_data(s, c, 0) {
-        MacDataPart::Read(h, n) => MacDataRead {
-            cursor: codec::moved_by(c, n),
-            answer: MacDataAnswer::Read(h),
-        },
-        MacDataPart::Refused(r) => MacDataRead {
+    let part = read_mac_data(codec::load(s, c, 0));
+    let refusal = part.refusal;
+    let header = part.header;
+    if refusal.number != 0 {
+        return MacDataRead {
             cursor: c,
-            answer: MacDataAnswer::Refused(r),
-        },
+            answer: MacDataAnswer::Refused(refusal),
+        };
+    }
+    MacDataRead {
+        cursor: codec::moved_by(c, part.next),
+        answer: MacDataAnswer::Read(header),
     }
 }
 

@@ -1,6 +1,6 @@
 -- The address of a MAC-ACCESS or MAC-DATA (document 01): "address type 2 (0 SSI, 1 label, 2 USSI, 3 SMI), address"; "SSI, USSI and SMI have
 -- 24 bits, label 10".
-use Prim.Native.Nat.{ℕ, _^_}
+use Prim.Native.Nat.{ℕ, _+_, _^_}
 use mathlib.Core.List.{List, [], _∷_}
 use mathlib.Core.Bool.{Bool, not, cond}
 use lib.ListN.{drop, getD}
@@ -10,10 +10,10 @@ use Rattle.tetra_core.specs.Refusal.{unless}
 use Rattle.tetra_core.specs.declared.address.SsiType.the-variants as Kind'
 use Rattle.tetra_core.specs.declared.address.UplinkAddress.{UplinkAddress}
 use Rattle.tetra_core.specs.declared.address.UplinkAddress.the-variants.{Ssi, EventLabel, Ussi, Smi}
-use Rattle.codec.specs.Reader.{Out, got, refused, Reader, done, field, _>>=_}
+use Rattle.codec.specs.Header.{partOut}
+use Rattle.codec.specs.Reader.{Out, got, Reader, done, field, _>>=_}
 use Rattle.codec.specs.Row.{Cell, cell}
 use Rattle.tetra_fields.specs.declared.fields.uplink_address.UplinkAddressPart.{UplinkAddressPart}
-use Rattle.tetra_fields.specs.declared.fields.uplink_address.UplinkAddressPart.the-variants.{Read, Refused}
 
 -- the bits of an address of a type
 unfoldable pub uplinkWidth : ℕ → ℕ
@@ -31,9 +31,8 @@ readUplinkAddress kind = do
   done (uplinkOf kind v)
 
 -- a part's answer as an outcome
-abbrev pub uplinkAddressOut : List Bool → UplinkAddressPart → Out UplinkAddress
-uplinkAddressOut h (Read a n) = got a (drop n h) n
-uplinkAddressOut h (Refused r) = refused (r .number) (r .bit)
+abbrev pub uplinkAddressOut : ℕ → ℕ → List Bool → UplinkAddressPart → Out UplinkAddress
+uplinkAddressOut kind o h p = partOut (p .refusal) (got (p .addr) (drop (o + uplinkWidth kind) h) (o + uplinkWidth kind))
 
 -- ---- what is written
 

@@ -9,13 +9,13 @@ use Rattle.tetra_core.specs.Address.{uplinkAddressType}
 use Rattle.bits.specs.Bits.{digit}
 use Rattle.tetra_core.specs.Refusal.{first}
 use Rattle.tetra_core.specs.declared.address.UplinkAddress.{UplinkAddress}
-use Rattle.codec.specs.Reader.{Out, got, refused, Reader, done, refuse, field, here, choose, _>>=_}
+use Rattle.codec.specs.Header.{partOut}
+use Rattle.codec.specs.Reader.{Out, got, Reader, done, refuse, field, here, choose, _>>=_}
 use Rattle.codec.specs.Row.{Cell, cell}
 use Rattle.codec.specs.Cases.{flag}
 use Rattle.tetra_fields.specs.UplinkAddress.{uplinkWidth, readUplinkAddress, encryptionRefusal, uplinkAddressRefusal, uplinkAddressRow, normalUplink}
 use Rattle.tetra_fields.specs.declared.fields.uplink_head.UplinkHead.{UplinkHead}
 use Rattle.tetra_fields.specs.declared.fields.uplink_head.UplinkHeadPart.{UplinkHeadPart}
-use Rattle.tetra_fields.specs.declared.fields.uplink_head.UplinkHeadPart.the-variants.{Read, Refused}
 
 -- ---- what is read
 
@@ -36,9 +36,8 @@ readUplinkHead w = do
   choose (not (eqb type 0)) (refuse 4 at) readUplinkBody
 
 -- a part's answer as an outcome
-abbrev pub uplinkHeadOut : List Bool → UplinkHeadPart → Out UplinkHead
-uplinkHeadOut h (Read a n) = got a (drop n h) n
-uplinkHeadOut h (Refused r) = refused (r .number) (r .bit)
+abbrev pub uplinkHeadOut : ℕ → List Bool → UplinkHeadPart → Out UplinkHead
+uplinkHeadOut o h p = partOut (p .refusal) (got (p .head) (drop (o + p .size) h) (o + p .size))
 
 -- ---- what is written
 

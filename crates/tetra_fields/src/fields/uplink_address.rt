@@ -1,21 +1,19 @@
 // The address of a MAC-ACCESS or MAC-DATA, clauses 21.4.2.1 and 21.4.2.3: SSI, USSI and SMI have 24 bits, an event label 10.
+use codec::Ahead;
 use tetra_core::address;
 use tetra_core::address::SsiType;
 use tetra_core::address::UplinkAddress;
-use tetra_core::bitbuffer::Cursor;
 use tetra_core::refusal;
 use tetra_core::refusal::Refusal;
 ghost use mathlib.Core.Path.{_≡_};
 ghost use Prim.Native.Nat.{_^_, _≤_, _<_};
-ghost use lib.ListN.{length};
-ghost use Rattle.tetra_core.specs.Laws.Windows.{Good};
-ghost use Rattle.codec.specs.Header.{within, Reads};
+ghost use Rattle.codec.specs.Ahead.{Ready, ReadsNext};
 ghost use Rattle.tetra_fields.specs.UplinkAddress.{uplinkWidth, uplinkOf, uplinkNumber, readUplinkAddress, uplinkAddressOut, uplinkAddressRefusal, encryptionRefusal};
 
-// An address as a part of a header, and the offset after it.
-pub enum UplinkAddressPart {
-    Read(UplinkAddress, usize),
-    Refused(Refusal),
+// An address as a part of a header: why it is not read, or number 0.
+pub struct UplinkAddressPart {
+    pub refusal: Refusal,
+    pub addr: UplinkAddress,
 }
 
 // The bits of an address of this type.
@@ -38,21 +36,30 @@ fn uplink_of(kind: u64, v: u64) -> UplinkAddress
     }
 }
 
-// The address of this type at the offset o of a header.
-pub(crate) fn read_uplink_address(s: &[u8], c: Cursor, o: usize, kind: u64) -> UplinkAddressPart
-    requires { ⌜ Good (length (now s)) c ⌝ }
-    ensures { λ r. ⌜ Reads uplinkAddressOut (readUplinkAddress kind) (within (now (s .entry)) c) o r ⌝ }
+// The address of this type, which is ahead.
+pub(crate) fn read_uplink_address(a: Ahead, kind: u64) -> UplinkAddressPart
+    requires { ⌜ Ready a 24 ⌝ }
+    ensures { λ r. ⌜ ReadsNext (uplinkAddressOut kind (a .at)) (readUplinkAddress kind) a r × (r .refusal .number ≡ 0 → uplinkWidth kind ≤ a .left) ⌝ }
 {
-    let left = codec::left(s, c, o);
+    let left = a.left;
     let n = uplink_width(kind);
     if left < n {
-        return UplinkAddressPart::Refused(Refusal {
-            number: refusal::READ_PAST_END,
-            bit: o,
-        });
+        return UplinkAddressPart {
+            refusal: Refusal {
+                number: refusal::READ_PAST_END,
+                bit: a.at,
+            },
+            addr: UplinkAddress::EventLabel(0),
+        };
     }
-    let v = codec::word(s, c, o, n);
-    UplinkAddressPart::Read(uplink_of(kind, v), o + n)
+    let v = codec::take(a, n);
+    UplinkAddressPart {
+        refusal: Refusal {
+            number: refusal::NONE,
+            bit: 0,
+        },
+        addr: uplink_of(kind, v),
+    }
 }
 
 // The number of an address.

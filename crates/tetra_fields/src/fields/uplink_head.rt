@@ -1,16 +1,13 @@
 // What MAC-ACCESS and MAC-DATA begin with, clauses 21.4.2.1 and 21.4.2.3: PDU type 1 or 2, fill 1, encrypted 1, address type 2, address.
 use crate::fields::uplink_address;
-use crate::fields::uplink_address::UplinkAddressPart;
+use codec::Ahead;
 use tetra_core::address;
 use tetra_core::address::UplinkAddress;
-use tetra_core::bitbuffer::Cursor;
 use tetra_core::refusal;
 use tetra_core::refusal::Refusal;
 ghost use mathlib.Core.Path.{_≡_};
 ghost use Prim.Native.Nat.{_≤_, _<_};
-ghost use lib.ListN.{length};
-ghost use Rattle.tetra_core.specs.Laws.Windows.{Good};
-ghost use Rattle.codec.specs.Header.{within, Reads};
+ghost use Rattle.codec.specs.Ahead.{Ready, ReadsNext};
 ghost use Rattle.codec.specs.Row.{RowIs};
 ghost use Rattle.tetra_fields.specs.UplinkAddress.{uplinkAddressRefusal};
 ghost use Rattle.tetra_fields.specs.UplinkHead.{readUplinkHead, uplinkHeadOut, bodySize, uplinkSize, uplinkBodyRow, uplinkRefusal};
@@ -21,50 +18,71 @@ pub struct UplinkHead {
     pub addr: UplinkAddress,
 }
 
-// The head of a header, and the offset after it.
-pub enum UplinkHeadPart {
-    Read(UplinkHead, usize),
-    Refused(Refusal),
+// The head as a part of a header: why it is not read, or number 0; and its bits.
+pub struct UplinkHeadPart {
+    pub refusal: Refusal,
+    pub head: UplinkHead,
+    pub size: usize,
 }
 
-fn refused(number: u8, bit: usize) -> UplinkHeadPart
-    ensures { λ r. ⌜ r ≡ UplinkHeadPart.Refused (record { number = number; bit = bit }) ⌝ }
+// What else a refused part holds is not looked at.
+fn refused(refusal: Refusal) -> UplinkHeadPart
+    ensures { λ r. ⌜ (r .refusal ≡ refusal) × (r .size ≡ 0) ⌝ }
 {
-    UplinkHeadPart::Refused(Refusal { number, bit })
-}
-
-// The head at the offset o of a header whose PDU type has w bits.
-pub fn read_uplink_head(s: &[u8], c: Cursor, o: usize, w: usize) -> UplinkHeadPart
-    requires { ⌜ Good (length (now s)) c × (1 ≤ w) × (w ≤ 2) ⌝ }
-    ensures { λ r. ⌜ Reads uplinkHeadOut (readUplinkHead w) (within (now (s .entry)) c) o r ⌝ }
-{
-    let left = codec::left(s, c, o);
-    if left < w {
-        return refused(refusal::READ_PAST_END, o);
+    UplinkHeadPart {
+        refusal,
+        head: UplinkHead {
+            fill_bits: false,
+            encrypted: false,
+            addr: UplinkAddress::EventLabel(0),
+        },
+        size: 0,
     }
-    let o1 = o + w;
+}
+
+// The head of a header whose PDU type has w bits, which is ahead.
+pub fn read_uplink_head(a: Ahead, w: usize) -> UplinkHeadPart
+    requires { ⌜ Ready a 30 × (1 ≤ w) × (w ≤ 2) ⌝ }
+    ensures { λ r. ⌜ ReadsNext (uplinkHeadOut (a .at)) (readUplinkHead w) a r × (r .size ≤ 30) × (r .refusal .number ≡ 0 → r .size ≤ a .left) ⌝ }
+{
+    let left = a.left;
+    let o = a.at;
+    if left < w {
+        return refused(Refusal {
+            number: refusal::READ_PAST_END,
+            bit: o,
+        });
+    }
     let n = w + 4;
     if left < n {
-        if codec::word(s, c, o, w) != 0 {
-            return refused(refusal::WRONG_PDU_TYPE, o);
+        if codec::take(a, w) != 0 {
+            return refused(Refusal {
+                number: refusal::WRONG_PDU_TYPE,
+                bit: o,
+            });
         }
         let widths = [1u8, 1, 2];
-        return UplinkHeadPart::Refused(codec::short(&widths, left - w, o1));
+        return refused(codec::short(&widths, left - w, o + w));
     }
-    let x = codec::word(s, c, o, n);
+    let x = codec::take(a, n);
     if x >> 4 != 0 {
-        return refused(refusal::WRONG_PDU_TYPE, o);
+        return refused(Refusal {
+            number: refusal::WRONG_PDU_TYPE,
+            bit: o,
+        });
     }
-    match uplink_address::read_uplink_address(s, c, o1 + 4, x % 4) {
-        UplinkAddressPart::Refused(r) => UplinkHeadPart::Refused(r),
-        UplinkAddressPart::Read(addr, at) => UplinkHeadPart::Read(
-            UplinkHead {
-                fill_bits: (x >> 3) % 2 != 0,
-                encrypted: (x >> 2) % 2 != 0,
-                addr,
-            },
-            at,
-        ),
+    let kind = x % 4;
+    let part = uplink_address::read_uplink_address(codec::on(a, n), kind);
+    let refusal = part.refusal;
+    let addr = part.addr;
+    UplinkHeadPart {
+        refusal,
+        head: UplinkHead {
+            fill_bits: (x >> 3) % 2 != 0,
+            encrypted: (x >> 2) % 2 != 0,
+            addr,
+        },
+        size: n + uplink_address::uplink_width(kind),
     }
 }
 

@@ -1,40 +1,61 @@
+use Prim.Native.Nat.{_+_}
+use mathlib.Core.Path.{refl}
+use native.Mathlib.Omega.{arith}
 use borrow.Author.Needs.{needs}
+use borrow.Author.Tests.{eq-eqb, ne-eqb}
 use Rattle.codec.specs.Reader.{run-bind}
-use Rattle.codec.specs.Header.{read}
-use Rattle.mac_access.specs.MacAccess.{readMacAccess}
+use Rattle.codec.specs.Header.{next-part}
+use Rattle.codec.specs.Ahead.{held-on, ready-on, ready-less, next-read}
+use Rattle.tetra_fields.specs.UplinkHead.{uplinkHeadOut}
+use Rattle.mac_access.specs.MacAccess.{optionOut, readMacAccess}
 use Rattle.mac_access.proofs.mac_access.read_mac_access.Statement.{statement}
 use Rattle.mac_access.proofs.mac_access.read_mac_access.Tie as tie
 
 returns : tie.Need-returns
 unfolding readMacAccess
-returns c = record { means = rw (run-bind, read (c .before .before .before .read-uplink-head .ensures) (c .before .r .given .1)) }
+returns c =
+    let t = c .before in
+    let r = t .before .before .before .before in
+    record {
+      of = λ h e. record {
+        means = rw (run-bind, next-read uplinkHeadOut {h = h} (r .read-uplink-head .ensures .0) e refl refl, ne-eqb _ _ (t .if1 .taken));
+      };
+    }
+
+on-requires : tie.Need-on-requires
+on-requires c κs =
+    let r = c .before .before .before .before in
+    let u = r .read-uplink-head .ensures in
+    (ready-less _ (r .before .pre) (omega (arith, u .1)), u .2 (c .if1 .left))
+
+read-option-requires : tie.Need-read-option-requires
+read-option-requires c κs =
+    let i = c .before in
+    let r = i .before .before .before .before in
+    let u = r .read-uplink-head .ensures in
+    rw (c .on .ensures) (ready-on _ 7 (r .before .pre) (omega (arith, u .1)) (u .2 (i .if1 .left)))
 
 returns-2 : tie.Need-returns-2
 unfolding readMacAccess
 returns-2 c =
-    let t = c .before .before .before in
-    let h = t .before .before in
+    let t = c .before .before in
+    let b = t .before in
+    let i = b .before in
+    let r = i .before .before .before .before in
+    let u = r .read-uplink-head .ensures in
     record {
-      means = rw (
-        run-bind,
-        read (h .before .before .read-uplink-head .ensures) (h .head .given .1),
-        run-bind,
-        read (t .read-option .ensures) (c .before .r2 .given .1),
-      );
-    }
-
-returns-3 : tie.Need-returns-3
-unfolding readMacAccess
-returns-3 c =
-    let t = c .before .before .before in
-    let h = t .before .before in
-    record {
-      means = rw (
-        run-bind,
-        read (h .before .before .read-uplink-head .ensures) (h .head .given .1),
-        run-bind,
-        read (t .read-option .ensures) (c .before .option .given .1),
-      );
+      of = λ h e. record {
+        means = rw (
+          run-bind,
+          next-read uplinkHeadOut {h = h} (u .0) e refl refl,
+          eq-eqb _ _ (i .if1 .left),
+          run-bind,
+          next-read (λ o h p. optionOut h p) {h = h} {o = r .before .args .a .at + r .read-uplink-head .result .size} (t .read-option .ensures)
+              (rw (b .on .ensures) (held-on _ e (u .2 (i .if1 .left)))) (rw (b .on .ensures)) refl,
+          next-part,
+          c .header-of2 .ensures,
+        );
+      };
     }
 
 pub read-mac-access-spec : {M : Type 1} → statement M
@@ -42,11 +63,9 @@ read-mac-access-spec =
     tie.close
     (tie.spec
     (λ c κs. search needs)
-    (λ c. search needs)
-    (λ c. search needs)
     (λ c κs. search needs)
-    (λ c. search needs)
-    (λ c. search needs)
     returns
-    returns-2
-    returns-3)
+    on-requires
+    read-option-requires
+    (λ c κs. search needs)
+    returns-2)

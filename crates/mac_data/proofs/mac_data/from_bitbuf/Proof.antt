@@ -1,7 +1,11 @@
+use mathlib.Core.Path.{_≡_, refl}
 use borrow.Author.Needs.{needs}
+use borrow.Author.Tests.{eq-eqb, ne-eqb}
+use denote.Ref.{now}
 use Rattle.tetra_core.specs.Laws.Windows.{good-facts}
-use Rattle.codec.specs.Header.{bad-seen, good-seen, ends, read}
-use Rattle.mac_data.specs.MacData.{readMacData, macDataAt}
+use Rattle.codec.specs.Header.{within, bad-seen, good-seen, ends, read}
+use Rattle.codec.specs.Reader.{run}
+use Rattle.mac_data.specs.MacData.{readMacData, macDataOut, macDataAt}
 use Rattle.mac_data.proofs.mac_data.from_bitbuf.Statement.{statement}
 use Rattle.mac_data.proofs.mac_data.from_bitbuf.Tie as tie
 
@@ -9,27 +13,34 @@ returns : tie.Need-returns
 unfolding macDataAt
 returns c = rw (bad-seen _ _ (c .before .good-window .ensures) (c .if1 .taken))
 
-read-mac-data-requires : tie.Need-read-mac-data-requires
-read-mac-data-requires c κs = good-facts _ _ (good-seen _ _ (c .before .good-window .ensures) (c .if1 .left))
+load-requires : tie.Need-load-requires
+load-requires c κs = good-facts _ _ (good-seen _ _ (c .before .good-window .ensures) (c .if1 .left))
 
-moved-by-requires : tie.Need-moved-by-requires
-moved-by-requires c κs =
-    let r = c .before .before .before in
-    ends readMacData _ _ (good-facts _ _ (good-seen _ _ (r .before .before .good-window .ensures) (r .before .if1 .left)))
-    (read (r .read-mac-data .ensures) (c .before .h .given .1))
+-- what was read, as the reader's outcome
+outcome : (c : tie.After-read-mac-data)
+    → let a = c .before .before .before .before .before .args in let h = within (now (a .s)) (a .c) in run readMacData h 0 ≡ macDataOut h (c .read-mac-data .result)
+outcome c = let l = c .before .load .ensures in
+    rw (l .2) at (read (c .read-mac-data .ensures .of _ (l .0)) refl)
 
 returns-2 : tie.Need-returns-2
 unfolding macDataAt
 returns-2 c =
-    let m = c .before .before in
-    let r = m .before .before in
-    rw (c .moved-by .ensures, good-seen _ _ (r .before .before .good-window .ensures) (r .before .if1 .left), read (r .read-mac-data .ensures) (m .h .given .1))
+    let r = c .before .before .before .before in
+    let i = r .before .before in
+    rw (good-seen _ _ (i .before .good-window .ensures) (i .if1 .left), outcome r, ne-eqb _ _ (c .if2 .taken))
+
+moved-by-requires : tie.Need-moved-by-requires
+moved-by-requires c κs =
+    let r = c .before .before .before .before in
+    let i = r .before .before in
+    ends readMacData _ _ (good-facts _ _ (good-seen _ _ (i .before .good-window .ensures) (i .if1 .left))) (rw (eq-eqb _ _ (c .if2 .left)) at (outcome r))
 
 returns-3 : tie.Need-returns-3
 unfolding macDataAt
 returns-3 c =
-    let r = c .before .before .before in
-    rw (good-seen _ _ (r .before .before .good-window .ensures) (r .before .if1 .left), read (r .read-mac-data .ensures) (c .before .r .given .1))
+    let r = c .before .before .before .before .before in
+    let i = r .before .before in
+    rw (c .moved-by .ensures, good-seen _ _ (i .before .good-window .ensures) (i .if1 .left), outcome r, eq-eqb _ _ (c .before .if2 .left))
 
 pub from-bitbuf-spec : {M : Type 1} → statement M
 from-bitbuf-spec =
@@ -37,9 +48,8 @@ from-bitbuf-spec =
     (tie.spec
     (λ c κs. search needs)
     returns
-    read-mac-data-requires
-    (λ c. search needs)
-    moved-by-requires
-    (λ c. search needs)
+    load-requires
+    (λ c κs. search needs)
     returns-2
+    moved-by-requires
     returns-3)
