@@ -6,8 +6,11 @@ use tetra_core::bitbuffer::Cursor;
 use tetra_core::bitbuffer::Moved;
 use tetra_core::bitbuffer::Opened;
 use tetra_core::bitbuffer::Outcome;
+ghost use mathlib.Core.Path.{_≡_};
 
-pub(crate) fn wide(x: u8) -> u64 {
+pub(crate) fn wide(x: u8) -> u64
+    ensures { λ r. ⌜ r ≡ x ⌝ }
+{
     x as u64
 }
 

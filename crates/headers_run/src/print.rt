@@ -4,8 +4,11 @@ use tetra_core::bitbuffer::Cursor;
 use tetra_core::bitbuffer::Moved;
 use tetra_core::bitbuffer::Outcome;
 use tetra_core::refusal::Refusal;
+ghost use mathlib.Core.Path.{_≡_};
 
-pub(crate) fn wide(x: u8) -> u64 {
+pub(crate) fn wide(x: u8) -> u64
+    ensures { λ r. ⌜ r ≡ x ⌝ }
+{
     x as u64
 }
 
@@ -63,7 +66,9 @@ pub(crate) fn moved(m: Moved) {
     at_bit(c);
 }
 
-pub(crate) fn window(end: usize) -> Cursor {
+pub(crate) fn window(end: usize) -> Cursor
+    ensures { λ r. ⌜ r ≡ record { start = 0; pos = 0; end = end } ⌝ }
+{
     Cursor {
         start: 0,
         pos: 0,
