@@ -221,7 +221,7 @@ fn put_add(
     bit + size
 }
 
-// As add, of a header that was taken apart.
+// As add, of a header that was taken apart, and so for every header that it may have been taken from.
 pub fn add_header(
     block: &mut [u8],
     bits: usize,
@@ -232,7 +232,7 @@ pub fn add_header(
     content_bits: usize,
 ) -> Written
     requires { ⌜ Addable header ⌝ }
-    ensures { λ r. ⌜ ((h : MacResource) → Adds h header → (r ≡ addAnswer resourceCodec bits (writerAt (now (block .entry)) bit) (addOf h indication (now (content .entry)) «content_bits»)) × (now (block .exit) ≡ addTo resourceCodec bits (writerAt (now (block .entry)) bit) (addOf h indication (now (content .entry)) «content_bits») .bytes)) ⌝ }
+    ensures { λ r. ⌜ (r ≡ addAnswer addedCodec bits (writerAt (now (block .entry)) bit) (addOf header indication (now (content .entry)) «content_bits»)) × (now (block .exit) ≡ addTo addedCodec bits (writerAt (now (block .entry)) bit) (addOf header indication (now (content .entry)) «content_bits») .bytes) × ((h : MacResource) → Adds h header → (r ≡ addAnswer resourceCodec bits (writerAt (now (block .entry)) bit) (addOf h indication (now (content .entry)) «content_bits»)) × (now (block .exit) ≡ addTo resourceCodec bits (writerAt (now (block .entry)) bit) (addOf h indication (now (content .entry)) «content_bits») .bytes)) ⌝ }
 {
     let len = block.len();
     let slice = content.len();

@@ -17,7 +17,7 @@ returns-3 c =
     let l = w .before .before in
     let g = l .before in
     let k = g .before .before in
-    let e = w .add-header .ensures _ (g .added-of .ensures) in
+    let e = w .add-header .ensures .2 _ (g .added-of .ensures) in
     record-replied _ _ _ _ _ (k .add-known .ensures) (g .before .if2 .left) (k .before .if1 .left) (rw (l .length-value .ensures)) (ap (writerMoved _) (e .0), e .1) (c .before .before .writer-moved .ensures)
 
 pub tetra-block-add-spec : {M : Type 1} → statement M

@@ -6,7 +6,7 @@ use Rattle.mac_block.proofs.writer.add.Tie as tie
 returns : tie.Need-returns
 returns c =
     let w = c .before .before in
-    w .add-header .ensures _ (w .before .before .added-header .ensures)
+    w .add-header .ensures .2 _ (w .before .before .added-header .ensures)
 
 pub add-spec : {M : Type 1} → statement M
 add-spec =
