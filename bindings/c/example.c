@@ -24,7 +24,7 @@ int main(void) {
     uint64_t header[TETRA_RESOURCE_WORDS] = {[TETRA_RESOURCE_ADDR_TYPE] = 1, [TETRA_RESOURCE_ADDRESS] = 1};
     uint64_t out[1 + TETRA_RESOURCE_WORDS];
 
-    if (tetra_mac_resource_update_len(header, TETRA_RESOURCE_WORDS, 0, out, 3) != TETRA_DONE) return 1;
+    if (tetra_mac_resource_len_and_fill(header, TETRA_RESOURCE_WORDS, 0, out, 3) != TETRA_DONE) return 1;
     header[TETRA_RESOURCE_LENGTH] = out[0];
     header[TETRA_RESOURCE_FILL_BITS] = out[1];
     size_t fill = out[2];

@@ -78,7 +78,7 @@ uint64_t tetra_read_bits(const uint8_t *s, size_t len, size_t start, size_t pos,
 
 /* Reads num_bits bits, 0 to 64, that begin `offset` bits after the cursor (before it where negative) and leaves it. out[0]: the cursor, as
  * given; out[1]: the bits as a number. `words` is at least 2. Refused: 13; 1 also before the window's start; both with bit 0. */
-uint64_t tetra_peek_bits(const uint8_t *s, size_t len, size_t start, size_t pos, size_t end, ptrdiff_t offset, size_t num_bits, uint64_t *out,
+uint64_t tetra_peek_bits_posoffset(const uint8_t *s, size_t len, size_t start, size_t pos, size_t end, ptrdiff_t offset, size_t num_bits, uint64_t *out,
                          size_t words);
 
 /* Writes value in num_bits bits, 0 to 64, at the cursor and moves it behind them; no other bit changes. out[0]: the cursor. `words` is at
@@ -168,12 +168,12 @@ uint64_t tetra_mac_resource_write(uint8_t *s, size_t len, size_t start, size_t p
                                   uint64_t *out, size_t words);
 
 /* The bits that a header is written as. out[0]: the bits. `words` is at least 1. Refused: 6. */
-uint64_t tetra_mac_resource_header_len(const uint64_t *record, size_t count, uint64_t *out, size_t words);
+uint64_t tetra_mac_resource_compute_header_len(const uint64_t *record, size_t count, uint64_t *out, size_t words);
 
 /* The length and the fill of a PDU of a header and sdu_len bits of content; its own places 0 and 4 do not matter. out[0]: its length in octets,
  * for place 4; out[1]: 1 if it has fill bits, for place 0; out[2]: the fill bits, 0 to 7, which are a 1 and zeros. `words` is at least 3.
  * Refused: 6, 8. */
-uint64_t tetra_mac_resource_update_len(const uint64_t *record, size_t count, size_t sdu_len, uint64_t *out, size_t words);
+uint64_t tetra_mac_resource_len_and_fill(const uint64_t *record, size_t count, size_t sdu_len, uint64_t *out, size_t words);
 
 /* ---- ACCESS-ASSIGN, clause 21.4.7.2: 14 bits */
 

@@ -170,8 +170,8 @@ static bool writes(void) { return in.op == WRITE || in.op == WRITE_BITS || in.op
 static uint64_t calls, done[OPS][TYPES], malformed[OPS][TYPES], refused[OPS][TYPES][15];
 
 static const char *name(enum op op, const struct type *type) {
-    static const char *const names[] = {"tetra_read_bits", "tetra_peek_bits", "tetra_write_bits", "", "", "tetra_channel_allocation_len",
-                                        "tetra_mac_resource_header_len", "tetra_mac_resource_update_len", "tetra_block_step",
+    static const char *const names[] = {"tetra_read_bits", "tetra_peek_bits_posoffset", "tetra_write_bits", "", "", "tetra_channel_allocation_len",
+                                        "tetra_mac_resource_compute_header_len", "tetra_mac_resource_len_and_fill", "tetra_block_step",
                                         "tetra_block_add", "tetra_block_finish"};
     static char text[64];
     if (op != READ && op != WRITE) return names[op];
@@ -295,13 +295,13 @@ static uint64_t call(void) {
     size_t words = out.bytes / 8, count = record.bytes / 8;
     switch (in.op) {
     case READ_BITS: return tetra_read_bits(bytes.at, bytes.bytes, in.start, in.pos, in.end, in.num_bits, o, words);
-    case PEEK_BITS: return tetra_peek_bits(bytes.at, bytes.bytes, in.start, in.pos, in.end, in.offset, in.num_bits, o, words);
+    case PEEK_BITS: return tetra_peek_bits_posoffset(bytes.at, bytes.bytes, in.start, in.pos, in.end, in.offset, in.num_bits, o, words);
     case WRITE_BITS: return tetra_write_bits(bytes.at, bytes.bytes, in.start, in.pos, in.end, in.value, in.num_bits, o, words);
     case READ: return in.type->read(bytes.at, bytes.bytes, in.start, in.pos, in.end, o, words);
     case WRITE: return in.type->write(bytes.at, bytes.bytes, in.start, in.pos, in.end, r, count, o, words);
     case CHANNEL_LEN: return tetra_channel_allocation_len(r, count, o, words);
-    case HEADER_LEN: return tetra_mac_resource_header_len(r, count, o, words);
-    case UPDATE_LEN: return tetra_mac_resource_update_len(r, count, in.sdu_len, o, words);
+    case HEADER_LEN: return tetra_mac_resource_compute_header_len(r, count, o, words);
+    case UPDATE_LEN: return tetra_mac_resource_len_and_fill(r, count, in.sdu_len, o, words);
     case STEP: return tetra_block_step(bytes.at, bytes.bytes, in.end, in.pos, o, words);
     case ADD:
         return tetra_block_add(bytes.at, bytes.bytes, in.end, in.pos, r, count, in.value, content.at, content.bytes, in.sdu_len, o, words);

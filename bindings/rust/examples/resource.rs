@@ -1,9 +1,9 @@
 //! A MAC-RESOURCE to SSI 1 without content: counted, written with its fill, printed, read back, and read from too few bits.
-use tetra_mac::{Cursor, MacResource, Refusal, SsiType, TetraAddress, write_bits};
+use tetra_mac::{Cursor, MacResource, Refusal, SsiType, DownlinkAddress, write_bits};
 
 fn main() -> Result<(), Refusal> {
     let mut pdu = [0u8; 6];
-    let mut header = MacResource::to(TetraAddress::Ssi(SsiType::Ssi, 1));
+    let mut header = MacResource::to(DownlinkAddress::Ssi(SsiType::Ssi, 1));
     let fill = header.update_len_and_fill_ind(0)?;
     let behind = header.to_bitbuf(&mut pdu, Cursor::new(48))?;
     if fill > 0 {

@@ -15,7 +15,7 @@ codes! {
 
 /// The address of a MAC-RESOURCE: SSI, USSI and SMI have 24 bits, an event label 10, a usage marker 6.
 #[derive(Clone, Copy, Debug, PartialEq, Eq, Hash)]
-pub enum TetraAddress {
+pub enum DownlinkAddress {
     NullPdu,
     Ssi(SsiType, u32),
     EventLabel(u16),
@@ -35,31 +35,31 @@ pub enum UplinkAddress {
     Smi(u32),
 }
 
-impl TetraAddress {
+impl DownlinkAddress {
     /// Address type, SSI kind, first and second number.
     pub(crate) fn to_words(self) -> [u64; 4] {
         match self {
-            TetraAddress::NullPdu => [0, 0, 0, 0],
-            TetraAddress::Ssi(kind, ssi) => [1, kind.into_raw(), ssi.into(), 0],
-            TetraAddress::EventLabel(label) => [2, 0, label.into(), 0],
-            TetraAddress::Ussi(ussi) => [3, 0, ussi.into(), 0],
-            TetraAddress::Smi(smi) => [4, 0, smi.into(), 0],
-            TetraAddress::SsiAndEventLabel(kind, ssi, label) => [5, kind.into_raw(), ssi.into(), label.into()],
-            TetraAddress::SsiAndUsageMarker(kind, ssi, marker) => [6, kind.into_raw(), ssi.into(), marker.into()],
-            TetraAddress::SmiAndEventLabel(smi, label) => [7, 0, smi.into(), label.into()],
+            DownlinkAddress::NullPdu => [0, 0, 0, 0],
+            DownlinkAddress::Ssi(kind, ssi) => [1, kind.into_raw(), ssi.into(), 0],
+            DownlinkAddress::EventLabel(label) => [2, 0, label.into(), 0],
+            DownlinkAddress::Ussi(ussi) => [3, 0, ussi.into(), 0],
+            DownlinkAddress::Smi(smi) => [4, 0, smi.into(), 0],
+            DownlinkAddress::SsiAndEventLabel(kind, ssi, label) => [5, kind.into_raw(), ssi.into(), label.into()],
+            DownlinkAddress::SsiAndUsageMarker(kind, ssi, marker) => [6, kind.into_raw(), ssi.into(), marker.into()],
+            DownlinkAddress::SmiAndEventLabel(smi, label) => [7, 0, smi.into(), label.into()],
         }
     }
 
     pub(crate) fn from_words([addr_type, kind, a, b]: [u64; 4]) -> Option<Self> {
         Some(match addr_type {
-            0 => TetraAddress::NullPdu,
-            1 => TetraAddress::Ssi(SsiType::from_raw(kind)?, number32(a)?),
-            2 => TetraAddress::EventLabel(number16(a)?),
-            3 => TetraAddress::Ussi(number32(a)?),
-            4 => TetraAddress::Smi(number32(a)?),
-            5 => TetraAddress::SsiAndEventLabel(SsiType::from_raw(kind)?, number32(a)?, number16(b)?),
-            6 => TetraAddress::SsiAndUsageMarker(SsiType::from_raw(kind)?, number32(a)?, number8(b)?),
-            7 => TetraAddress::SmiAndEventLabel(number32(a)?, number16(b)?),
+            0 => DownlinkAddress::NullPdu,
+            1 => DownlinkAddress::Ssi(SsiType::from_raw(kind)?, number32(a)?),
+            2 => DownlinkAddress::EventLabel(number16(a)?),
+            3 => DownlinkAddress::Ussi(number32(a)?),
+            4 => DownlinkAddress::Smi(number32(a)?),
+            5 => DownlinkAddress::SsiAndEventLabel(SsiType::from_raw(kind)?, number32(a)?, number16(b)?),
+            6 => DownlinkAddress::SsiAndUsageMarker(SsiType::from_raw(kind)?, number32(a)?, number8(b)?),
+            7 => DownlinkAddress::SmiAndEventLabel(number32(a)?, number16(b)?),
             _ => return None,
         })
     }

@@ -2,10 +2,10 @@
 //!
 //! ```
 //! use tetra_mac::block::{self, BlockEntry, LengthIndication};
-//! use tetra_mac::{MacResource, SsiType, TetraAddress};
+//! use tetra_mac::{MacResource, SsiType, DownlinkAddress};
 //!
 //! let mut bytes = [0; 16];
-//! let header = MacResource::to(TetraAddress::Ssi(SsiType::Ssi, 1));
+//! let header = MacResource::to(DownlinkAddress::Ssi(SsiType::Ssi, 1));
 //! let bit = block::add(&mut bytes, 124, 0, &header, LengthIndication::Counted, &[0xa5], 8)?;
 //! block::finish(&mut bytes, 124, bit)?;
 //!
@@ -100,7 +100,7 @@ impl BlockEntry {
             }
             2 => BlockEntry::Null(bit),
             3 => {
-                let refusal = Refusal { number: number as u8, bit: refused_bit as usize };
+                let refusal = Refusal { number: number as u8, offset: refused_bit as usize };
                 BlockEntry::Refused(RefusedPdu { bit, end: (has_end != 0).then_some(end), refusal })
             }
             _ => return Err(Refusal::malformed()),

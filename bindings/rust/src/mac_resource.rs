@@ -1,7 +1,7 @@
 //! Clause 21.4.3.1, MAC-RESOURCE: 16 bits for a null PDU, else 29 to 92.
 use crate::record::{self, Record, number8};
 use crate::sys;
-use crate::{BasicSlotgrant, ChanAllocElement, Cursor, Refusal, TetraAddress};
+use crate::{BasicSlotgrant, ChanAllocElement, Cursor, Refusal, DownlinkAddress};
 
 /// Mark in the place of a length: the start of fragments.
 pub const MAC_RESOURCE_LENGTH_FRAG_START: u8 = 63;
@@ -23,7 +23,7 @@ pub struct MacResource {
     /// 6 bits, octets or a mark; not written as 0 (8).
     pub length_ind: u8,
     /// 3 bits, and the address.
-    pub addr: TetraAddress,
+    pub addr: DownlinkAddress,
     /// 1 bit, and 4 where there is one.
     pub power_control_element: Option<u8>,
     /// 1 bit, and 8 where there is one.
@@ -34,7 +34,7 @@ pub struct MacResource {
 
 impl MacResource {
     /// A header to an address, with nothing else in it and its length still 0.
-    pub fn to(addr: TetraAddress) -> Self {
+    pub fn to(addr: DownlinkAddress) -> Self {
         MacResource {
             fill_bits: false,
             pos_of_grant: 0,
@@ -50,11 +50,11 @@ impl MacResource {
 
     /// The null PDU that ends a block.
     pub fn null_pdu() -> Self {
-        MacResource { length_ind: 2, ..MacResource::to(TetraAddress::NullPdu) }
+        MacResource { length_ind: 2, ..MacResource::to(DownlinkAddress::NullPdu) }
     }
 
     pub fn is_null_pdu(&self) -> bool {
-        self.addr == TetraAddress::NullPdu
+        self.addr == DownlinkAddress::NullPdu
     }
 
     /// Reads one: 1, 4, 5, 6 or 13 refuse it.
@@ -69,7 +69,7 @@ impl MacResource {
 
     /// The bits that it is written as: 6 refuses it.
     pub fn compute_header_len(&self) -> Result<usize, Refusal> {
-        record::length(sys::tetra_mac_resource_header_len, self)
+        record::length(sys::tetra_mac_resource_compute_header_len, self)
     }
 
     /// Sets length and fill flag for `sdu_len` bits of content and gives the fill bits, a 1 and zeros, that are to follow: 6 or 8 refuse it,
@@ -78,7 +78,7 @@ impl MacResource {
         let mut out = [0u64; 3];
         let words = self.to_words();
         // Slices go as pointer and count; the call keeps neither and writes only into out.
-        let status = unsafe { sys::tetra_mac_resource_update_len(words.as_ptr(), words.len(), sdu_len, out.as_mut_ptr(), out.len()) };
+        let status = unsafe { sys::tetra_mac_resource_len_and_fill(words.as_ptr(), words.len(), sdu_len, out.as_mut_ptr(), out.len()) };
         Refusal::of_status(status)?;
         let [length_ind, fill_bits, fill] = out;
         self.length_ind = number8(length_ind).ok_or(Refusal::malformed())?;
@@ -122,7 +122,7 @@ impl Record<25> for MacResource {
             encryption_mode: number8(w[2])?,
             random_access_flag: w[3] != 0,
             length_ind: number8(w[4])?,
-            addr: TetraAddress::from_words([w[5], w[6], w[7], w[8]])?,
+            addr: DownlinkAddress::from_words([w[5], w[6], w[7], w[8]])?,
             power_control_element,
             slot_granting_element,
             chan_alloc_element,

@@ -5,7 +5,7 @@ use std::fmt;
 #[derive(Clone, Copy, Debug, PartialEq, Eq, Hash)]
 pub struct Refusal {
     pub number: u8,
-    pub bit: usize,
+    pub offset: usize,
 }
 
 impl Refusal {
@@ -46,11 +46,11 @@ impl Refusal {
         if status == 0 {
             return Ok(());
         }
-        Err(Refusal { number: (status % 256) as u8, bit: (status / 256) as usize })
+        Err(Refusal { number: (status % 256) as u8, offset: (status / 256) as usize })
     }
 
     pub(crate) fn malformed() -> Refusal {
-        Refusal { number: Refusal::MALFORMED, bit: 0 }
+        Refusal { number: Refusal::MALFORMED, offset: 0 }
     }
 
     /// The meaning of its number.
@@ -77,7 +77,7 @@ impl Refusal {
 
 impl fmt::Display for Refusal {
     fn fmt(&self, f: &mut fmt::Formatter<'_>) -> fmt::Result {
-        write!(f, "refused {} at bit {}: {}", self.number, self.bit, self.meaning())
+        write!(f, "refused {} at bit {}: {}", self.number, self.offset, self.meaning())
     }
 }
 

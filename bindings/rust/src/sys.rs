@@ -18,7 +18,7 @@ pub type Length = unsafe extern "C" fn(*const u64, usize, *mut u64, usize) -> u6
 #[rustfmt::skip]
 unsafe extern "C" {
     pub fn tetra_read_bits(s: *const u8, len: usize, start: usize, pos: usize, end: usize, num_bits: usize, out: *mut u64, words: usize) -> u64;
-    pub fn tetra_peek_bits(s: *const u8, len: usize, start: usize, pos: usize, end: usize, offset: isize, num_bits: usize, out: *mut u64, words: usize) -> u64;
+    pub fn tetra_peek_bits_posoffset(s: *const u8, len: usize, start: usize, pos: usize, end: usize, offset: isize, num_bits: usize, out: *mut u64, words: usize) -> u64;
     pub fn tetra_write_bits(s: *mut u8, len: usize, start: usize, pos: usize, end: usize, value: u64, num_bits: usize, out: *mut u64, words: usize) -> u64;
 
     pub fn tetra_slotgrant_read(s: *const u8, len: usize, start: usize, pos: usize, end: usize, out: *mut u64, words: usize) -> u64;
@@ -30,8 +30,8 @@ unsafe extern "C" {
 
     pub fn tetra_mac_resource_read(s: *const u8, len: usize, start: usize, pos: usize, end: usize, out: *mut u64, words: usize) -> u64;
     pub fn tetra_mac_resource_write(s: *mut u8, len: usize, start: usize, pos: usize, end: usize, record: *const u64, count: usize, out: *mut u64, words: usize) -> u64;
-    pub fn tetra_mac_resource_header_len(record: *const u64, count: usize, out: *mut u64, words: usize) -> u64;
-    pub fn tetra_mac_resource_update_len(record: *const u64, count: usize, sdu_len: usize, out: *mut u64, words: usize) -> u64;
+    pub fn tetra_mac_resource_compute_header_len(record: *const u64, count: usize, out: *mut u64, words: usize) -> u64;
+    pub fn tetra_mac_resource_len_and_fill(record: *const u64, count: usize, sdu_len: usize, out: *mut u64, words: usize) -> u64;
 
     pub fn tetra_access_assign_read(s: *const u8, len: usize, start: usize, pos: usize, end: usize, out: *mut u64, words: usize) -> u64;
     pub fn tetra_access_assign_write(s: *mut u8, len: usize, start: usize, pos: usize, end: usize, record: *const u64, count: usize, out: *mut u64, words: usize) -> u64;

@@ -3,11 +3,11 @@ use tetra_mac::block::{self, BlockEntry, LengthIndication, RefusedPdu, ResourceP
 use tetra_mac::*;
 
 fn refused<T>(number: u8) -> Result<T, Refusal> {
-    Err(Refusal { number, bit: 0 })
+    Err(Refusal { number, offset: 0 })
 }
 
 fn ssi(number: u32) -> MacResource {
-    MacResource::to(TetraAddress::Ssi(SsiType::Ssi, number))
+    MacResource::to(DownlinkAddress::Ssi(SsiType::Ssi, number))
 }
 
 /// The entries of a block, and the bit where the rest begins.
@@ -82,7 +82,7 @@ fn to_the_last_bit() {
     }
     bytes[1] = 35 << 3 | 1;
     bytes[0] = 0x21;
-    let over = RefusedPdu { bit: 0, end: None, refusal: Refusal { number: Refusal::LENGTH, bit: 7 } };
+    let over = RefusedPdu { bit: 0, end: None, refusal: Refusal { number: Refusal::LENGTH, offset: 7 } };
     assert_eq!(walked(&bytes, 268), (vec![BlockEntry::Refused(over)], 0));
 }
 
@@ -123,13 +123,13 @@ fn refused_pdus() {
     let next = block::add(&mut bytes, 124, 0, &ssi(1), LengthIndication::Counted, &[], 0).expect("room");
     block::add(&mut bytes, 124, next, &ssi(2), LengthIndication::Counted, &[0xff], 8).expect("room");
     let second = block::step(&bytes, 124, next).expect("a block").expect("a PDU");
-    let entry = |number, bit| BlockEntry::Refused(RefusedPdu { bit: 0, end: Some(48), refusal: Refusal { number, bit } });
+    let entry = |number, offset| BlockEntry::Refused(RefusedPdu { bit: 0, end: Some(48), refusal: Refusal { number, offset } });
     for (octet, value, number, bit) in [(5, 0x00, Refusal::NO_FILL_BIT, 43), (5, 0x40, Refusal::READ_PAST_END, 46)] {
         let mut damaged = bytes;
         damaged[octet] = value;
         assert_eq!(walked(&damaged, 124).0[..2], [entry(number, bit), second]);
     }
     bytes[6] |= 0x40;
-    let wrong_type = RefusedPdu { bit: 48, end: None, refusal: Refusal { number: Refusal::WRONG_PDU_TYPE, bit: 0 } };
+    let wrong_type = RefusedPdu { bit: 48, end: None, refusal: Refusal { number: Refusal::WRONG_PDU_TYPE, offset: 0 } };
     assert_eq!((walked(&bytes, 124).0[1], walked(&bytes, 124).1), (BlockEntry::Refused(wrong_type), 48));
 }

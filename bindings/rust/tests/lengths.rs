@@ -15,7 +15,7 @@ fn allocation(ul_dl_assigned: UlDlAssignment, mon_pattern: u8) -> ChanAllocEleme
 }
 
 fn refused<T>(number: u8) -> Result<T, Refusal> {
-    Err(Refusal { number, bit: 0 })
+    Err(Refusal { number, offset: 0 })
 }
 
 #[test]
@@ -29,13 +29,13 @@ fn channel_allocations() {
 fn every_form_of_a_header_has_its_length() {
     let ssi = SsiType::Gssi;
     let addresses = [
-        (TetraAddress::Ssi(ssi, 1), 24),
-        (TetraAddress::EventLabel(1), 10),
-        (TetraAddress::Ussi(1), 24),
-        (TetraAddress::Smi(1), 24),
-        (TetraAddress::SsiAndEventLabel(ssi, 1, 1), 34),
-        (TetraAddress::SsiAndUsageMarker(ssi, 1, 1), 30),
-        (TetraAddress::SmiAndEventLabel(1, 1), 34),
+        (DownlinkAddress::Ssi(ssi, 1), 24),
+        (DownlinkAddress::EventLabel(1), 10),
+        (DownlinkAddress::Ussi(1), 24),
+        (DownlinkAddress::Smi(1), 24),
+        (DownlinkAddress::SsiAndEventLabel(ssi, 1, 1), 34),
+        (DownlinkAddress::SsiAndUsageMarker(ssi, 1, 1), 30),
+        (DownlinkAddress::SmiAndEventLabel(1, 1), 34),
     ];
     let grant = BasicSlotgrant {
         capacity_allocation: BasicSlotgrantCapAlloc::Grant1Slot,
@@ -61,23 +61,23 @@ fn every_form_of_a_header_has_its_length() {
 
 #[test]
 fn octets_and_fill() {
-    let count = |addr: TetraAddress, content: usize| {
+    let count = |addr: DownlinkAddress, content: usize| {
         let mut header = MacResource::to(addr);
         header.update_len_and_fill_ind(content).map(|fill| (header.length_ind, header.fill_bits, fill))
     };
-    let ssi = TetraAddress::Ssi(SsiType::Ssi, 1);
+    let ssi = DownlinkAddress::Ssi(SsiType::Ssi, 1);
     assert_eq!(count(ssi, 0), Ok((6, true, 5)));
     assert_eq!(count(ssi, 5), Ok((6, false, 0)));
     assert_eq!(count(ssi, 6), Ok((7, true, 7)));
     assert_eq!(count(ssi, 445), Ok((61, false, 0)));
     assert_eq!(count(ssi, 446), refused(Refusal::LENGTH));
     assert_eq!(count(ssi, usize::MAX), refused(Refusal::LENGTH));
-    assert_eq!(count(TetraAddress::NullPdu, 473), refused(Refusal::LENGTH));
+    assert_eq!(count(DownlinkAddress::NullPdu, 473), refused(Refusal::LENGTH));
 }
 
 #[test]
 fn a_refused_length_sets_nothing() {
-    let mut header = MacResource { length_ind: 7, fill_bits: true, ..MacResource::to(TetraAddress::Ussi(3)) };
+    let mut header = MacResource { length_ind: 7, fill_bits: true, ..MacResource::to(DownlinkAddress::Ussi(3)) };
     let before = header;
     assert_eq!(header.update_len_and_fill_ind(500), refused(Refusal::LENGTH));
     assert_eq!(header, before);

@@ -1,8 +1,8 @@
 //! Refused calls: their numbers, and that they leave every byte.
 use tetra_mac::*;
 
-fn refused<T>(number: u8, bit: usize) -> Result<T, Refusal> {
-    Err(Refusal { number, bit })
+fn refused<T>(number: u8, offset: usize) -> Result<T, Refusal> {
+    Err(Refusal { number, offset })
 }
 
 /// A write that a number refuses, at several places of bytes that all stay.
@@ -108,7 +108,7 @@ fn writes() {
 
 #[test]
 fn resources() {
-    let header = MacResource { length_ind: 6, ..MacResource::to(TetraAddress::Ssi(SsiType::Ssi, 1)) };
+    let header = MacResource { length_ind: 6, ..MacResource::to(DownlinkAddress::Ssi(SsiType::Ssi, 1)) };
     write_refused(Refusal::LENGTH, |s, c| MacResource { length_ind: 0, ..header }.to_bitbuf(s, c));
     write_refused(Refusal::VALUE_TOO_WIDE, |s, c| MacResource { length_ind: 64, ..header }.to_bitbuf(s, c));
     write_refused(Refusal::NULL_PDU, |s, c| MacResource { fill_bits: true, ..MacResource::null_pdu() }.to_bitbuf(s, c));

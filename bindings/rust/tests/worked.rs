@@ -18,7 +18,7 @@ fn null_pdu() {
 
 #[test]
 fn ssi_1_without_content() {
-    let mut header = MacResource::to(TetraAddress::Ssi(SsiType::Ssi, 1));
+    let mut header = MacResource::to(DownlinkAddress::Ssi(SsiType::Ssi, 1));
     assert_eq!(header.update_len_and_fill_ind(0), Ok(5));
     assert_eq!((header.length_ind, header.fill_bits), (6, true));
     let bytes = [0x20, 0x31, 0x00, 0x00, 0x01, 0x10];
@@ -42,7 +42,7 @@ fn resource_with_all_elements() {
             granting_delay: BasicSlotgrantGrantingDelay::DelayNOpportunities(13),
         }),
         chan_alloc_element: Some(allocation(0, Some(3))),
-        ..MacResource::to(TetraAddress::SsiAndEventLabel(SsiType::Ssi, 0xabcdef, 0x3ff))
+        ..MacResource::to(DownlinkAddress::SsiAndEventLabel(SsiType::Ssi, 0xabcdef, 0x3ff))
     };
     assert_eq!(header.compute_header_len(), Ok(92));
     for start in 0..20 {
@@ -92,7 +92,7 @@ fn access_assign() {
     };
     written(&[0xc4, 0x00], 14, |s, c| used.to_bitbuf(s, c));
     assert_eq!(AccessAssign::from_bitbuf(&[0xc4, 0x00], Cursor::new(14)), Ok((used, Cursor::new(14).at(14))));
-    assert_eq!(AccessAssign::from_bitbuf(&[0xc4, 0x08], Cursor::new(14)), Err(Refusal { number: Refusal::USAGE_MARKER, bit: 8 }));
+    assert_eq!(AccessAssign::from_bitbuf(&[0xc4, 0x08], Cursor::new(14)), Err(Refusal { number: Refusal::USAGE_MARKER, offset: 8 }));
 }
 
 #[test]

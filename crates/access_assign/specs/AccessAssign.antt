@@ -1,6 +1,7 @@
 -- ACCESS-ASSIGN (document 01): "Header 2, field one 6, field two 6. Header 0: two access fields. Headers 1 and 2: downlink usage, access
 -- field. Header 3: downlink usage, uplink usage."
 use Prim.Native.Nat.{ℕ, _+_}
+use mathlib.Core.Path.{_≡_}
 use mathlib.Core.List.{List, [], _∷_}
 use mathlib.Core.Bool.{Bool, false}
 use lib.ListN.{drop}
@@ -8,8 +9,8 @@ use lib.Dec.{eqb}
 use Rattle.tetra_core.specs.Refusal.{first}
 use Rattle.tetra_core.specs.declared.bitbuffer.Cursor.{Cursor}
 use Rattle.tetra_core.specs.declared.bitbuffer.Moved.{Moved}
-use Rattle.codec.specs.Reader.{Out, got, refused, Reader, done, refuse, field, here, choose, _>>=_}
-use Rattle.codec.specs.Header.{atCursor, Reads}
+use Rattle.codec.specs.Reader.{Out, got, Reader, done, refuse, field, here, choose, parse, _>>=_}
+use Rattle.codec.specs.Header.{atCursor, partOut}
 use Rattle.codec.specs.Row.{Cell, cell, rowBits}
 use Rattle.codec.specs.Write.{writeAt, writtenAt}
 use Rattle.access_assign.specs.AccessField.{accessFieldNumber, accessFieldOf}
@@ -22,7 +23,6 @@ use Rattle.access_assign.specs.declared.access_assign.AccessAssign.the-v
 use Rattle.access_assign.specs.declared.access_assign.AccessAssignAnswer.{AccessAssignAnswer}
 use Rattle.access_assign.specs.declared.access_assign.AccessAssignRead.{AccessAssignRead}
 use Rattle.access_assign.specs.declared.access_assign.AccessAssignPart.{AccessAssignPart}
-use Rattle.access_assign.specs.declared.access_assign.AccessAssignPart.the-variants.{Read, Refused}
 
 -- ---- what is read
 
@@ -43,14 +43,17 @@ readAccessAssign = do
   two ← field 6 done
   accessAssignOf header one two second
 
--- a part's answer as an outcome
-abbrev pub accessAssignOut : List Bool → AccessAssignPart → Out AccessAssign
-accessAssignOut h (Read a n) = got a (drop n h) n
-accessAssignOut h (Refused r) = refused (r .number) (r .bit)
+-- the bits of all three fields
+abbrev pub assignSize : ℕ
+assignSize = 14
 
--- the answer r is what these fields say at the offset o of a header, whatever its bits are
+-- the answer of a part at the offset o as an outcome
+abbrev pub accessAssignOut : ℕ → List Bool → AccessAssignPart → Out AccessAssign
+accessAssignOut o h p = partOut (p .refusal) (got (p .assign) (drop (o + assignSize) h) (o + assignSize))
+
+-- the answer r is what these fields say, of which the second begins at an offset, whatever bits follow them
 abbrev pub Says : ℕ → ℕ → ℕ → ℕ → AccessAssignPart → Type 0
-Says header one two o r = (h : List Bool) → Reads accessAssignOut (accessAssignOf header one two (o + 8)) h (o + 14) r
+Says header one two second r = (rest : List Bool) (n : ℕ) → partOut (r .refusal) (got (r .assign) rest n) ≡ parse (accessAssignOf header one two second) rest n
 
 unfoldable pub accessAssignAt : List ℕ → Cursor → AccessAssignRead
 accessAssignAt = atCursor readAccessAssign (λ c a. record { cursor = c; answer = a }) AccessAssignAnswer.Read AccessAssignAnswer.Refused

@@ -9,8 +9,9 @@ use crate::enums::access_code::AccessCode;
 use crate::structs::access_field;
 use crate::structs::access_field::AccessField;
 use crate::structs::base_frame_length::BaseFrameLength;
-use codec::piece;
-use codec::piece::Part;
+use codec::Ahead;
+use codec::encoded;
+use codec::encoded::Encoded;
 use codec::piece::Piece;
 use tetra_core::bitbuffer;
 use tetra_core::bitbuffer::Cursor;
@@ -18,13 +19,23 @@ use tetra_core::bitbuffer::Moved;
 use tetra_core::refusal;
 use tetra_core::refusal::Refusal;
 ghost use mathlib.Core.Path.{_≡_};
-ghost use Prim.Native.Nat.{_≤_, _<_};
-ghost use lib.ListN.{length};
-ghost use Rattle.tetra_core.specs.Laws.Windows.{Good};
-ghost use Rattle.codec.specs.Header.{within, Reads};
+ghost use Prim.Native.Nat.{_<_};
+ghost use Rattle.codec.specs.Ahead.{Ready, ReadsNext};
 ghost use Rattle.codec.specs.Row.{rowBits, RowIs};
-ghost use Rattle.codec.specs.Piece.{Writes};
-ghost use Rattle.access_assign.specs.AccessAssign.{defaultAccessAssign, isDlTraffic, Says, readAccessAssign, accessAssignOut, accessAssignAt, headerNumber, fieldOne, fieldTwo, accessAssignRefusal, accessAssignRow, accessAssignWrite, accessAssignWritten};
+ghost use Rattle.codec.specs.Encoded.{EncodesOne};
+ghost use Rattle.access_assign.specs.AccessAssign.{assignSize, defaultAccessAssign, isDlTraffic, Says, readAccessAssign, accessAssignOut, accessAssignAt, headerNumber, fieldOne, fieldTwo, accessAssignRefusal, accessAssignRow, accessAssignWrite, accessAssignWritten};
+
+// The bits of an ACCESS-ASSIGN.
+const SIZE: usize = 14;
+
+// The offset of field two.
+const FIELD_TWO_AT: usize = 8;
+
+// What the header is worth in the word of all three fields.
+const HEADER: u64 = 1 << 12;
+
+// The same of field one; field two is worth 1.
+const FIELD_ONE: u64 = 1 << 6;
 
 pub enum AccessAssign {
     // Header 0: downlink usage common control, uplink access rights common only
@@ -61,10 +72,10 @@ pub struct AccessAssignRead {
     pub answer: AccessAssignAnswer,
 }
 
-// An ACCESS-ASSIGN and the offset after it.
-pub enum AccessAssignPart {
-    Read(AccessAssign, usize),
-    Refused(Refusal),
+// An ACCESS-ASSIGN as a part of a header: why it is not read, or number 0.
+pub struct AccessAssignPart {
+    pub refusal: Refusal,
+    pub assign: AccessAssign,
 }
 
 // Both subslots open to all, code A, in an access frame of four subslots.
@@ -106,68 +117,74 @@ pub fn dl_is_traffic(a: AccessAssign) -> bool
     }
 }
 
-// The refusal of an uplink marker that marks nothing.
-fn unmarked(bit: usize) -> Refusal
-    ensures { λ r. ⌜ r ≡ record { number = 7; bit = bit } ⌝ }
+// What else a refused part holds is not looked at.
+fn refused(refusal: Refusal) -> AccessAssignPart
+    ensures { λ r. ⌜ r .refusal ≡ refusal ⌝ }
 {
-    Refusal {
-        number: refusal::USAGE_MARKER,
-        bit,
+    AccessAssignPart {
+        refusal,
+        assign: default_access_assign(),
     }
 }
 
-// What the three fields of an ACCESS-ASSIGN at the offset o of a header say.
-fn access_assign_of(header: u64, one: u64, two: u64, o: usize) -> AccessAssignPart
-    requires { ⌜ (one < 64) × (two < 64) × (o ≤ 65536) ⌝ }
-    ensures { λ r. ⌜ Says header one two o r ⌝ }
+fn assign_read(assign: AccessAssign) -> AccessAssignPart
+    ensures { λ r. ⌜ r ≡ record { refusal = record { number = 0; offset = 0 }; assign = assign } ⌝ }
+{
+    AccessAssignPart {
+        refusal: Refusal {
+            number: refusal::NONE,
+            offset: 0,
+        },
+        assign,
+    }
+}
+
+// What the three fields of an ACCESS-ASSIGN say, of which field two begins at the offset second.
+fn access_assign_of(header: u64, one: u64, two: u64, second: usize) -> AccessAssignPart
+    requires { ⌜ (one < 64) × (two < 64) ⌝ }
+    ensures { λ r. ⌜ Says header one two second r ⌝ }
 {
     match header {
-        0 => AccessAssignPart::Read(
-            AccessAssign::DownlinkCommonControlUplinkCommonOnly {
-                access_field_1: access_field::from_raw(one),
-                access_field_2: access_field::from_raw(two),
-            },
-            o + 14,
-        ),
-        1 => AccessAssignPart::Read(
-            AccessAssign::DownlinkDefinedUplinkCommonAndAssigned {
-                downlink_usage_marker: dl_usage::from_usage_marker(one as u8),
-                access_field: access_field::from_raw(two),
-            },
-            o + 14,
-        ),
-        2 => AccessAssignPart::Read(
-            AccessAssign::DownlinkDefinedUplinkAssignedOnly {
-                downlink_usage_marker: dl_usage::from_usage_marker(one as u8),
-                access_field: access_field::from_raw(two),
-            },
-            o + 14,
-        ),
+        0 => assign_read(AccessAssign::DownlinkCommonControlUplinkCommonOnly {
+            access_field_1: access_field::from_raw(one),
+            access_field_2: access_field::from_raw(two),
+        }),
+        1 => assign_read(AccessAssign::DownlinkDefinedUplinkCommonAndAssigned {
+            downlink_usage_marker: dl_usage::from_usage_marker(one as u8),
+            access_field: access_field::from_raw(two),
+        }),
+        2 => assign_read(AccessAssign::DownlinkDefinedUplinkAssignedOnly {
+            downlink_usage_marker: dl_usage::from_usage_marker(one as u8),
+            access_field: access_field::from_raw(two),
+        }),
         _ => match ul_usage::from_usage_marker(two as u8) {
-            UplinkUsage::Usage(uplink_usage_marker) => AccessAssignPart::Read(
-                AccessAssign::DownlinkDefinedUplinkDefined {
+            UplinkUsage::Usage(uplink_usage_marker) => {
+                assign_read(AccessAssign::DownlinkDefinedUplinkDefined {
                     downlink_usage_marker: dl_usage::from_usage_marker(one as u8),
                     uplink_usage_marker,
-                },
-                o + 14,
-            ),
-            UplinkUsage::Nothing => AccessAssignPart::Refused(unmarked(o + 8)),
+                })
+            }
+            UplinkUsage::Nothing => refused(Refusal {
+                number: refusal::USAGE_MARKER,
+                offset: second,
+            }),
         },
     }
 }
 
-// The ACCESS-ASSIGN at the offset o of a header.
-fn read_access_assign(s: &[u8], c: Cursor, o: usize) -> AccessAssignPart
-    requires { ⌜ Good (length (now s)) c ⌝ }
-    ensures { λ r. ⌜ Reads accessAssignOut readAccessAssign (within (now (s .entry)) c) o r ⌝ }
+// The ACCESS-ASSIGN that is ahead.
+fn read_access_assign(a: Ahead) -> AccessAssignPart
+    requires { ⌜ Ready a assignSize ⌝ }
+    ensures { λ r. ⌜ ReadsNext (accessAssignOut (a .at)) readAccessAssign a r ⌝ }
 {
-    let left = codec::left(s, c, o);
-    if left < 14 {
+    let left = a.left;
+    let o = a.at;
+    if left < SIZE {
         let widths = [2u8, 6, 6];
-        return AccessAssignPart::Refused(codec::short(&widths, left, o));
+        return refused(codec::fields_past_end(&widths, left, o));
     }
-    let x = codec::word(s, c, o, 14);
-    access_assign_of((x >> 12) % 4, (x >> 6) % 64, x % 64, o)
+    let x = codec::next_bits(a, SIZE);
+    access_assign_of(x / HEADER % 4, x / FIELD_ONE % 64, x % 64, o + FIELD_TWO_AT)
 }
 
 // Reads an ACCESS-ASSIGN at the cursor.
@@ -179,19 +196,22 @@ pub fn from_bitbuf(s: &[u8], c: Cursor) -> AccessAssignRead
             cursor: c,
             answer: AccessAssignAnswer::Refused(Refusal {
                 number: refusal::BAD_WINDOW,
-                bit: 0,
+                offset: 0,
             }),
         };
     }
-    match read_access_assign(s, c, 0) {
-        AccessAssignPart::Read(a, n) => AccessAssignRead {
-            cursor: codec::moved_by(c, n),
-            answer: AccessAssignAnswer::Read(a),
-        },
-        AccessAssignPart::Refused(r) => AccessAssignRead {
+    let part = read_access_assign(codec::load(s, c, 0));
+    let refusal = part.refusal;
+    let assign = part.assign;
+    if refusal.number != 0 {
+        return AccessAssignRead {
             cursor: c,
-            answer: AccessAssignAnswer::Refused(r),
-        },
+            answer: AccessAssignAnswer::Refused(refusal),
+        };
+    }
+    AccessAssignRead {
+        cursor: codec::moved_by(c, SIZE),
+        answer: AccessAssignAnswer::Read(assign),
     }
 }
 
@@ -304,24 +324,24 @@ fn field_two(a: AccessAssign) -> u64
 // The 14 bits of an ACCESS-ASSIGN as one number.
 fn access_assign_word(a: AccessAssign) -> u64
     requires { ⌜ accessAssignRefusal a ≡ 0 ⌝ }
-    ensures { λ r. ⌜ RowIs (accessAssignRow a) 14 r ⌝ }
+    ensures { λ r. ⌜ RowIs (accessAssignRow a) assignSize r ⌝ }
 {
-    header(a) * 4096 + (field_one(a) * 64 + field_two(a))
+    header(a) * HEADER + (field_one(a) * FIELD_ONE + field_two(a))
 }
 
 // An ACCESS-ASSIGN on its way to being written.
-fn access_assign_part(a: AccessAssign) -> Part
-    ensures { λ r. ⌜ Writes (accessAssignRefusal a) (rowBits (accessAssignRow a)) r ⌝ }
+fn access_assign_encoded(a: AccessAssign) -> Encoded
+    ensures { λ r. ⌜ EncodesOne (accessAssignRefusal a) assignSize (rowBits (accessAssignRow a)) r ⌝ }
 {
     let number = access_assign_refusal(a);
     if number != 0 {
-        return piece::refused(number);
+        return encoded::refused(number, SIZE);
     }
-    Part {
+    Encoded {
         number,
         piece: Piece {
             value: access_assign_word(a),
-            bits: 14,
+            bits: SIZE,
         },
     }
 }
@@ -330,5 +350,5 @@ fn access_assign_part(a: AccessAssign) -> Part
 pub fn to_bitbuf(s: &mut [u8], c: Cursor, a: AccessAssign) -> Moved
     ensures { λ r. ⌜ (r ≡ accessAssignWrite (now (s .entry)) c a) × (now (s .exit) ≡ accessAssignWritten (now (s .entry)) c a) ⌝ }
 {
-    piece::write_part(s, c, access_assign_part(a))
+    encoded::write(s, c, access_assign_encoded(a))
 }

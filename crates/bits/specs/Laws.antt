@@ -8,13 +8,13 @@
 -- Reads    length-bitsAt    a read inside the bytes has as many bits as asked; bitsAt-add, getBits-add cut it
 --          getBits-lt       and is a number of that width; getBits-part is a part of it
 -- Writes   putBits-append   a write behind a write is one write; length-putBits, bytes-putBits hold always
---          bitsAt-putBits   what was written is read; bitsAt-before, bitsAt-after: the rest is as it was; bitsAt-inside: any part
+--          bitsAt-putBits   what was written is read, bitsAt-inside: any part of it; bitsAt-after: what is behind it is as it was
 -- Shifts   one-shl, within-is, replaced-is, ..    what shifts and masks are in plain arithmetic
--- Runs     goes-on          a write that the code does 64 bits a turn
+-- Spans    goes-on          a write that the code does 64 bits a turn
 pub mod Values
 pub mod Bytes
 pub mod Splice
 pub mod Reads
 pub mod Writes
 pub mod Shifts
-pub mod Runs
+pub mod Spans

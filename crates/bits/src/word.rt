@@ -4,7 +4,7 @@ ghost use Prim.Native.Nat.{_+_, _-_, _*_, _/_, _%_, _^_, _≤_, _<_, min};
 ghost use lib.ListN.{length};
 ghost use Rattle.bits.specs.Bits.{getBits, putBits, bitsOfNat, patch, Leading};
 
-pub fn least(a: usize, b: usize) -> usize
+pub fn min(a: usize, b: usize) -> usize
     ensures { λ r. ⌜ r ≡ min a b ⌝ }
 {
     if a < b { a } else { b }
@@ -34,7 +34,7 @@ fn load1(s: &[u8], at: usize, k: usize) -> u64
     requires { ⌜ (at < length (now s)) × (k ≤ 56) ⌝ }
     ensures { λ r. ⌜ r ≡ getBits (now (s .entry)) (8 * at) 8 * 2 ^ k ⌝ }
 {
-    wide(s[at]) << k
+    widen(s[at]) << k
 }
 
 fn load2(s: &[u8], at: usize, k: usize) -> u64
@@ -59,7 +59,7 @@ fn load8(s: &[u8], at: usize) -> u64
     load4(s, at, 32) | load4(s, at + 4, 0)
 }
 
-fn wide(x: u8) -> u64
+pub fn widen(x: u8) -> u64
     ensures { λ r. ⌜ r ≡ x ⌝ }
 {
     x as u64
@@ -78,7 +78,7 @@ fn word_start(len: usize, pos: usize) -> usize
     requires { ⌜ 8 ≤ len ⌝ }
     ensures { λ r. ⌜ r ≡ min (pos / 8) (len - 8) ⌝ }
 {
-    least(pos / 8, len - 8)
+    min(pos / 8, len - 8)
 }
 
 // All bytes of a slice that is shorter than a word, as a number.
@@ -89,7 +89,7 @@ fn load_all(s: &[u8]) -> u64
     let mut all: u64 = 0;
     let mut i: usize = 0;
     while i < s.len() {
-        all = (all << 8) | wide(s[i]);
+        all = (all << 8) | widen(s[i]);
         i += 1;
     }
     all
@@ -108,7 +108,7 @@ pub fn get_ahead(s: &[u8], pos: usize) -> u64
     let o = pos - 8 * at;
     let x = load8(s, at) << o;
     if at + 8 < len {
-        return x | (wide(s[at + 8]) >> (8 - o));
+        return x | (widen(s[at + 8]) >> (8 - o));
     }
     x
 }
@@ -134,7 +134,7 @@ fn put_by_bytes(s: &mut [u8], pos: usize, n: usize, v: u64)
         let p = pos + done;
         let at = p / 8;
         let room = 8 - p % 8;
-        let k = least(n - done, room);
+        let k = min(n - done, room);
         let b = s[at];
         s[at] = byte_replaced(b, k, room - k, v >> (n - done - k));
         done += k;

@@ -4,17 +4,22 @@ use Rattle.bits.specs.Bits.{odd, val, bitsOfNat, bitsOf, bitsAt}
 use Rattle.codec.specs.Reader.{fieldAt}
 use Rattle.mac_resource.specs.Address.{addrTypeOf, readAddress, one}
 use Rattle.mac_resource.specs.Fixed.{readBehindType, readFixed}
-use Rattle.mac_resource.specs.Elements.{optional, readPower, readGranting, readAllocation, readElements}
+use Rattle.optional_elements.specs.Optional.{optional}
+use Rattle.optional_elements.specs.PowerControl.{readPower}
+use Rattle.optional_elements.specs.SlotGranting.{readGranting}
+use Rattle.optional_elements.specs.Allocation.{readAllocation}
+use Rattle.optional_elements.specs.GrantAndAllocation.{readGrantAndAllocation}
+use Rattle.optional_elements.specs.Elements.{readElements}
 use Rattle.mac_resource.specs.MacResource.{readMacResource}
-use Rattle.mac_block.specs.Frame.{field, countedFrame, resourceFrame, frameOf, frame}
-use Rattle.mac_block.specs.Read.{extend, beforeLastOne, behindHeader, readOwn, readPdu}
-use Rattle.mac_block.specs.Walk.{goodBlock, stepOf, pduOf, firstPdu, stepAt, step, goOn, follow, walkBy, walkFrom}
-use Rattle.mac_block.specs.Step.{sizedEntry, entryOf}
+use Rattle.block_rules.specs.Extent.{field, countedExtent, resourceExtent, extentOf, extent}
+use Rattle.block_rules.specs.Read.{extend, beforeLastOne, behindHeader, readOwn, readPdu}
+use Rattle.block_rules.specs.Walk.{goodBlock, stepOf, pduOf, firstPdu, stepAt, step, goOn, follow, walkBy, walkFrom}
+use Rattle.mac_block.specs.Answers.{sizedEntry, entryOf}
 use Rattle.block_walk.specs.declared.Position.{Position}
 use Rattle.block_walk.specs.Positions.{walkOn, restFrom}
 use Rattle.block_lines.specs.Line.{resourceLine, entryLine, linesFrom, restBits}
 use Rattle.block_lines.specs.Examples.{bytes-01, lines-01}
 
 pub listing-01 : (linesFrom bytes-01 124 (Position.At 0) ≡ lines-01) × (restBits bytes-01 124 ≡ 60)
-unfolding odd val bitsOfNat bitsOf bitsAt fieldAt addrTypeOf readAddress one readBehindType readFixed optional readPower readGranting readAllocation readElements readMacResource field countedFrame resourceFrame frameOf frame extend beforeLastOne behindHeader readOwn readPdu goodBlock stepOf pduOf firstPdu stepAt step goOn follow walkBy walkFrom sizedEntry entryOf walkOn restFrom resourceLine entryLine linesFrom
+unfolding odd val bitsOfNat bitsOf bitsAt fieldAt addrTypeOf readAddress one readBehindType readFixed optional readPower readGranting readAllocation readElements readMacResource field countedExtent resourceExtent extentOf extent extend beforeLastOne behindHeader readOwn readPdu goodBlock stepOf pduOf firstPdu stepAt step goOn follow walkBy walkFrom sizedEntry entryOf walkOn restFrom resourceLine entryLine linesFrom readGrantAndAllocation
 listing-01 = (refl, refl)

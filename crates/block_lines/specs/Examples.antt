@@ -3,7 +3,7 @@ use mathlib.Core.List.{List, [], _∷_}
 use Prim.Native.Nat.{ℕ}
 use lib.ListN.{replicate}
 use Rattle.tetra_core.specs.declared.address.SsiType.{SsiType}
-use Rattle.tetra_core.specs.declared.address.TetraAddress.{TetraAddress}
+use Rattle.tetra_core.specs.declared.address.DownlinkAddress.{DownlinkAddress}
 use Rattle.block_lines.specs.declared.line.Line.{Line}
 
 abbrev pub bytes-01 : List ℕ
@@ -12,6 +12,6 @@ bytes-01 = 0x20 ∷ 0x31 ∷ 0x00 ∷ 0x00 ∷ 0x01 ∷ 0x10 ∷ 0x00 ∷ 0x10 �
 -- `0 resource 48 ssi 1 - 0` and `48 null`
 abbrev pub lines-01 : List Line
 lines-01 =
-    Line.Resource (record { start = 0; «pdu_bits» = 48; addr = TetraAddress.Ssi SsiType.Ssi 1; «content_bits» = 0 })
+    Line.Resource (record { start = 0; «pdu_bits» = 48; addr = DownlinkAddress.Ssi SsiType.Ssi 1; «content_bits» = 0 })
     ∷ Line.Null 48
     ∷ []

@@ -8,7 +8,7 @@ use block_walk::Position;
 use libc::STDOUT_FILENO;
 use mac_block::reader;
 use mac_block::reader::StepAnswer;
-use tetra_core::address::TetraAddress;
+use tetra_core::address::DownlinkAddress;
 use tetra_core::refusal;
 use tetra_core::refusal::Refusal;
 ghost use mathlib.Core.Path.{_≡_};
@@ -27,7 +27,7 @@ fn space_number(n: u64) {
     number(n);
 }
 
-fn case_of(addr: TetraAddress) {
+fn case_of(addr: DownlinkAddress) {
     let name = address::case_name(addr);
     let length = name.length;
     let bytes = name.text;
@@ -63,7 +63,7 @@ fn refused(start: usize, r: Refusal) {
     number(start as u64);
     text(b" refused");
     space_number(r.number as u64);
-    space_number(r.bit as u64);
+    space_number(r.offset as u64);
     text(b"\n");
 }
 
@@ -103,7 +103,7 @@ pub fn print_no_block() {
         0,
         Refusal {
             number: refusal::BAD_WINDOW,
-            bit: 0,
+            offset: 0,
         },
     );
 }

@@ -2,13 +2,13 @@
 use Prim.Native.Nat.{ℕ, _+_, _-_, _≤_}
 use mathlib.Core.List.{List}
 use denote.Ref.{RefT, now}
-use Rattle.mac_resource.specs.declared.mac_resource.MacResource.{MacResource}
 use Rattle.mac_block.specs.declared.reader.PduEnd.{PduEnd}
 use Rattle.mac_block.specs.declared.reader.BlockEntry.{BlockEntry}
 use Rattle.mac_block.specs.declared.reader.StepAnswer.{StepAnswer}
-use Rattle.mac_block.specs.Walk as block
-use Rattle.mac_block.specs.Resource.{resourceCodec}
-use Rattle.mac_block.specs.Step.{stepAnswer}
+use Rattle.block_rules.specs.Numbers.{mostBits, leastBits}
+use Rattle.block_rules.specs.Walk as block
+use Rattle.block_rules.specs.Downlink.{DownlinkHeader, downlinkReader}
+use Rattle.mac_block.specs.Answers.{stepAnswer}
 use Rattle.block_walk.specs.declared.Position.{Position}
 use Rattle.block_walk.specs.declared.WalkStep.{WalkStep}
 use Rattle.block_walk.specs.declared.Walk.{Walk}
@@ -21,7 +21,7 @@ afterEnd p PduEnd.Unknown = Position.Ended p
 -- "each from the last one's PDU end"; "Rest is the bits after a null PDU, or from p where the walk ended otherwise"
 unfoldable pub afterEntry : BlockEntry → Position
 afterEntry (BlockEntry.Resource pdu) = Position.At (pdu .end)
-afterEntry (BlockEntry.Null p) = Position.Ended (p + 16)
+afterEntry (BlockEntry.Null p) = Position.Ended (p + leastBits)
 afterEntry (BlockEntry.Refused pdu) = afterEnd (pdu .bit) (pdu .end)
 
 -- the position after the answer of a step from the bit p
@@ -35,12 +35,12 @@ stepped p a = record { position = after p a; answer = a }
 
 -- in a block of n bits in the bytes v: the block's step, and "a walk that ended gives end again"
 unfoldable pub stepFrom : (v : List ℕ) (n : ℕ) → Position → WalkStep
-stepFrom v n (Position.At p) = stepped p (stepAnswer (block.step resourceCodec v n p))
+stepFrom v n (Position.At p) = stepped p (stepAnswer (block.step downlinkReader v n p))
 stepFrom v n (Position.Ended q) = record { position = Position.Ended q; answer = StepAnswer.End }
 
 -- the block's walk, from a position on
-unfoldable pub walkOn : (v : List ℕ) (n : ℕ) → Position → block.Walk MacResource
-walkOn v n (Position.At p) = block.walkFrom resourceCodec v n p
+unfoldable pub walkOn : (v : List ℕ) (n : ℕ) → Position → block.Walk DownlinkHeader
+walkOn v n (Position.At p) = block.walkFrom downlinkReader v n p
 walkOn v n (Position.Ended q) = block.ended q
 
 -- how many bits the rest has of the walk from a position on
@@ -62,5 +62,5 @@ moved w = record { block = w .block; bits = w .bits; position = stepFrom (now (w
 -- a null PDU begins in a block
 unfoldable pub NullFits : BlockEntry → Type 0
 NullFits (BlockEntry.Resource pdu) = Unit {0}
-NullFits (BlockEntry.Null p) = p ≤ 488
+NullFits (BlockEntry.Null p) = p ≤ mostBits
 NullFits (BlockEntry.Refused pdu) = Unit {0}

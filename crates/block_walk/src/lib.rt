@@ -1,4 +1,5 @@
 // A walk over a lent block. The work is `step_from` and `rest_from`, which take plain parameters; the functions over the struct are thin.
+use block_rules::LEAST_BITS;
 use mac_block::reader;
 use mac_block::reader::BlockEntry;
 use mac_block::reader::PduEnd;
@@ -7,8 +8,6 @@ use mac_block::reader::StepAnswer;
 ghost use mathlib.Core.Path.{_≡_};
 ghost use Prim.Native.Nat.{_-_};
 ghost use Rattle.block_walk.specs.Positions.{NullFits, afterEnd, afterEntry, stepFrom, restFrom, begun, moved};
-
-const NULL_BITS: usize = 16;
 
 // Where a walk is. A bit alone would not say it: behind a null PDU the walk has ended, and bits that look like another PDU may follow.
 pub enum Position {
@@ -40,7 +39,7 @@ fn after_entry(entry: BlockEntry) -> Position
 {
     match entry {
         BlockEntry::Resource(pdu) => Position::At(pdu.end),
-        BlockEntry::Null(bit) => Position::Ended(bit + NULL_BITS),
+        BlockEntry::Null(bit) => Position::Ended(bit + LEAST_BITS),
         BlockEntry::Refused(pdu) => after_refused(pdu),
     }
 }

@@ -1,24 +1,32 @@
--- Document 01, "Bits to hold against": one row for each case, and one for the listing's block. A row has what the definitions give that the
--- contracts cite, and what the case says. `proofs/Cases.antt` computes every row.
+-- Document 01, "Bits to hold against": one row for each case, one for the listing's block, and one for the examples of the refusal table. A row
+-- has what the definitions give that the contracts cite, and what the paper says. `proofs/Cases.antt` computes every row.
 use mathlib.Core.Path.{_≡_}
 use mathlib.Core.Bool.{Bool, true, false}
 use mathlib.Core.List.{List, [], _∷_, _++_}
 use Prim.Native.Nat.{ℕ}
 use lib.ListN.{replicate}
 use Rattle.tetra_core.specs.declared.address.SsiType.{SsiType}
-use Rattle.tetra_core.specs.declared.address.TetraAddress.{TetraAddress}
+use Rattle.tetra_core.specs.declared.address.DownlinkAddress.{DownlinkAddress}
 use Rattle.tetra_core.specs.declared.address.UplinkAddress.{UplinkAddress}
+use Rattle.tetra_core.specs.BitBuffer.{readBits, opened}
+use Rattle.tetra_core.specs.declared.bitbuffer.BitsAnswer.{BitsAnswer}
+use Rattle.tetra_core.specs.declared.bitbuffer.BitsRead.{BitsRead}
 use Rattle.tetra_core.specs.declared.bitbuffer.Cursor.{Cursor}
 use Rattle.tetra_core.specs.declared.bitbuffer.Moved.{Moved}
+use Rattle.tetra_core.specs.declared.bitbuffer.Opened.{Opened}
 use Rattle.tetra_core.specs.declared.bitbuffer.Outcome.{Outcome}
-use Rattle.tetra_fields.specs.declared.enums.alloc_type.ChanAllocType.{ChanAllocType}
-use Rattle.tetra_fields.specs.declared.enums.ul_dl_assignment.UlDlAssignment.{UlDlAssignment}
-use Rattle.tetra_fields.specs.declared.fields.channel_allocation.Frame18Pattern.{Frame18Pattern}
-use Rattle.tetra_fields.specs.declared.fields.channel_allocation.ChanAllocElement.{ChanAllocElement}
-use Rattle.tetra_fields.specs.declared.fields.channel_allocation.ChanAllocLen.{ChanAllocLen}
-use Rattle.tetra_fields.specs.declared.fields.channel_allocation.ChannelAllocationAnswer.{ChannelAllocationAnswer}
-use Rattle.tetra_fields.specs.declared.fields.channel_allocation.ChannelAllocationRead.{ChannelAllocationRead}
-use Rattle.tetra_fields.specs.ChannelAllocation.{computeLen, channelAllocationAt, channelAllocationWrite, channelAllocationWritten}
+use Rattle.tetra_fields.specs.declared.enums.basic_slotgrant_cap_alloc.BasicSlotgrantCapAlloc.{BasicSlotgrantCapAlloc}
+use Rattle.tetra_fields.specs.declared.enums.basic_slotgrant_granting_delay.BasicSlotgrantGrantingDelay.{BasicSlotgrantGrantingDelay}
+use Rattle.tetra_fields.specs.declared.fields.basic_slotgrant.BasicSlotgrant.{BasicSlotgrant}
+use Rattle.tetra_fields.specs.BasicSlotgrant.{slotgrantWrite, slotgrantWritten}
+use Rattle.channel_allocation.specs.declared.enums.alloc_type.ChanAllocType.{ChanAllocType}
+use Rattle.channel_allocation.specs.declared.enums.ul_dl_assignment.UlDlAssignment.{UlDlAssignment}
+use Rattle.channel_allocation.specs.declared.channel_allocation.Frame18Pattern.{Frame18Pattern}
+use Rattle.channel_allocation.specs.declared.channel_allocation.ChanAllocElement.{ChanAllocElement}
+use Rattle.channel_allocation.specs.declared.channel_allocation.ChanAllocLen.{ChanAllocLen}
+use Rattle.channel_allocation.specs.declared.channel_allocation.ChannelAllocationAnswer.{ChannelAllocationAnswer}
+use Rattle.channel_allocation.specs.declared.channel_allocation.ChannelAllocationRead.{ChannelAllocationRead}
+use Rattle.channel_allocation.specs.ChannelAllocation.{computeLen, channelAllocationAt, channelAllocationWrite, channelAllocationWritten}
 use Rattle.access_assign.specs.declared.enums.access_assign_dl_usage.AccessAssignDlUsage.{AccessAssignDlUsage}
 use Rattle.access_assign.specs.declared.enums.access_assign_ul_usage.AccessAssignUlUsage.{AccessAssignUlUsage}
 use Rattle.access_assign.specs.declared.access_assign.AccessAssign.{AccessAssign}
@@ -35,32 +43,35 @@ use Rattle.mac_data.specs.declared.mac_data.MacDataOption.{MacDataOption}
 use Rattle.mac_data.specs.declared.mac_data.MacDataAnswer.{MacDataAnswer}
 use Rattle.mac_data.specs.declared.mac_data.MacDataRead.{MacDataRead}
 use Rattle.mac_data.specs.MacData.{macDataAt, macDataWrite, macDataWritten}
-use Rattle.mac_resource.specs.declared.elements.PowerControl.{PowerControl}
-use Rattle.mac_resource.specs.declared.elements.SlotGranting.{SlotGranting}
-use Rattle.mac_resource.specs.declared.elements.ChannelAllocation.{ChannelAllocation}
+use Rattle.optional_elements.specs.declared.power_control.OptionalPower.{OptionalPower}
+use Rattle.optional_elements.specs.declared.slot_granting.OptionalGrant.{OptionalGrant}
+use Rattle.optional_elements.specs.declared.allocation.OptionalAllocation.{OptionalAllocation}
 use Rattle.mac_resource.specs.declared.mac_resource.MacResource.{MacResource}
 use Rattle.mac_resource.specs.declared.mac_resource.MacResourceAnswer.{MacResourceAnswer}
 use Rattle.mac_resource.specs.declared.mac_resource.MacResourceRead.{MacResourceRead}
 use Rattle.mac_resource.specs.declared.mac_resource.HeaderLen.{HeaderLen}
 use Rattle.mac_resource.specs.declared.mac_resource.LenAndFill.{LenAndFill}
 use Rattle.mac_resource.specs.MacResource.{nullPdu, macResourceAt, macResourceWrite, macResourceWritten, computeHeaderLen, updateLenAndFillInd}
+use Rattle.block_rules.specs.declared.to_add.LengthIndication.{LengthIndication}
+use Rattle.block_rules.specs.Read.{Reading}
+use Rattle.block_rules.specs.Walk.{Pdu, Entry, Walk, step, walk}
+use Rattle.block_rules.specs.Writer.{Writer, finishTo, addOf, addTo}
+use Rattle.block_rules.specs.Run.{Call, start, run}
+use Rattle.block_rules.specs.Downlink.{DownlinkHeader, downlinkReader, HeaderToAdd, resourceToAdd, downlinkWriter}
 use Rattle.mac_block.specs.declared.reader.BlockEntry.{BlockEntry}
 use Rattle.mac_block.specs.declared.reader.PduEnd.{PduEnd}
 use Rattle.mac_block.specs.declared.reader.StepAnswer.{StepAnswer}
-use Rattle.mac_block.specs.declared.writer.LengthIndication.{LengthIndication}
 use Rattle.mac_block.specs.declared.writer.Written.{Written}
-use Rattle.mac_block.specs.Read.{Reading}
-use Rattle.mac_block.specs.Walk.{Pdu, Entry, Walk, step, walk}
-use Rattle.mac_block.specs.Writer.{Writer, finishTo, finishAnswer, addTo, addAnswer}
-use Rattle.mac_block.specs.Run.{Call, start, run}
-use Rattle.mac_block.specs.Step.{stepAnswer}
-use Rattle.mac_block.specs.Resource.{resourceCodec}
+use Rattle.mac_block.specs.Answers.{stepAnswer, finishAnswer, addAnswer}
 
 -- what a call answers
 pub data Answer : Type 0 where
   -- a header or an element that is written, and the bytes that are left
   Wrote : Moved → (bytes : List ℕ) → Answer
-  -- one that is read
+  -- a bare field, and a window over a slice
+  ReadField : BitsRead → Answer
+  OpenedWindow : Opened → Answer
+  -- a header or an element that is read
   ReadAllocation : ChannelAllocationRead → Answer
   ReadAssign : AccessAssignRead → Answer
   ReadAccess : MacAccessRead → Answer
@@ -71,7 +82,7 @@ pub data Answer : Type 0 where
   HeaderBits : HeaderLen → Answer
   Octets : LenAndFill → Answer
   -- the adds and finishes of a block, each with the writer's bit after it, the bytes that are left, and the walk of the block then
-  Block : List Written → (bytes : List ℕ) → Walk MacResource → Answer
+  Block : List Written → (bytes : List ℕ) → Walk DownlinkHeader → Answer
   -- one step in a block
   Step : StepAnswer → Answer
 
@@ -99,37 +110,41 @@ octets o f flag = Answer.Octets (LenAndFill.Counted (record { 0 = o }) (record {
 
 -- ---- blocks: the calls on one, as its contracts have them
 
-unfoldable pub answers : (n : ℕ) → List (Call MacResource) → Writer → List Written
+unfoldable pub answers : (n : ℕ) → List (Call HeaderToAdd) → Writer → List Written
 answers n [] w = []
-answers n (Call.add a ∷ cs) w = addAnswer resourceCodec n w a ∷ answers n cs (addTo resourceCodec n w a)
+answers n (Call.add a ∷ cs) w = addAnswer downlinkWriter n w a ∷ answers n cs (addTo downlinkWriter n w a)
 answers n (Call.finish ∷ cs) w = finishAnswer n w ∷ answers n cs (finishTo n w)
 
 -- a block of n bits in these bytes, after these calls from bit 0 on
-unfoldable pub block : (n : ℕ) → List ℕ → List (Call MacResource) → Answer
+unfoldable pub block : (n : ℕ) → List ℕ → List (Call HeaderToAdd) → Answer
 block n bytes calls =
-    let left = run resourceCodec n calls (start bytes) in
-    Answer.Block (answers n calls (start bytes)) (left .bytes) (walk resourceCodec (left .bytes) n)
+    let left = run downlinkWriter n calls (start bytes) in
+    Answer.Block (answers n calls (start bytes)) (left .bytes) (walk downlinkReader (left .bytes) n)
 
--- "SSI 1, no elements"
-abbrev pub ssi1 : (length : ℕ) → (fill : Bool) → MacResource
-ssi1 l f =
+-- a header with no elements
+abbrev pub plain : (length : ℕ) → (fill : Bool) → (mode : ℕ) → DownlinkAddress → MacResource
+plain l f m a =
     record {
       «fill_bits» = f;
       «pos_of_grant» = 0;
-      «encryption_mode» = 0;
+      «encryption_mode» = m;
       «random_access_flag» = false;
       «length_ind» = l;
-      addr = TetraAddress.Ssi SsiType.Ssi 1;
-      «power_control_element» = PowerControl.Without;
-      «slot_granting_element» = SlotGranting.Without;
-      «chan_alloc_element» = ChannelAllocation.Without;
+      addr = a;
+      «power_control_element» = OptionalPower.Without;
+      «slot_granting_element» = OptionalGrant.Without;
+      «chan_alloc_element» = OptionalAllocation.Without;
     }
 
--- an add of k bits of content, all ones, out of 60 bytes
-abbrev pub adds : LengthIndication → ℕ → Call MacResource
-adds i k = Call.add (record { header = ssi1 0 false; indication = i; content = replicate 60 0xff; bits = k })
+-- "SSI 1, no elements"
+abbrev pub ssi1 : (length : ℕ) → (fill : Bool) → MacResource
+ssi1 l f = plain l f 0 (DownlinkAddress.Ssi SsiType.Ssi 1)
 
-abbrev pub counts : ℕ → Call MacResource
+-- an add of k bits of content, all ones, out of 60 bytes
+abbrev pub adds : LengthIndication → ℕ → Call HeaderToAdd
+adds i k = Call.add (addOf (resourceToAdd (ssi1 0 false) i) (replicate 60 0xff) k)
+
+abbrev pub counts : ℕ → Call HeaderToAdd
 counts k = adds LengthIndication.Counted k
 
 -- a call that is done, or refused, with the writer's bit after it
@@ -140,13 +155,13 @@ abbrev pub refused : (bit number : ℕ) → Written
 refused p j = record { bit = p; answer = Outcome.Refused j }
 
 -- the entry of a PDU of s bits with such a header, k ones and f bits of fill
-abbrev pub pdu : (bit s l : ℕ) → (flag : Bool) → (k f : ℕ) → Entry MacResource
+abbrev pub pdu : (bit s l : ℕ) → (flag : Bool) → (k f : ℕ) → Entry DownlinkHeader
 pdu p s l flag k f = record { bit = p; pdu = Pdu.sized s (Reading.read (ssi1 l flag) 43 (replicate k true) f) }
 
-abbrev pub null : (bit : ℕ) → Entry MacResource
+abbrev pub null : (bit : ℕ) → Entry DownlinkHeader
 null p = record { bit = p; pdu = Pdu.null 2 }
 
-abbrev pub walked : List (Entry MacResource) → (rest : ℕ) → Walk MacResource
+abbrev pub walked : List (Entry DownlinkHeader) → (rest : ℕ) → Walk DownlinkHeader
 walked es p = record { entries = es; restAt = p }
 
 -- the bytes of a PDU of 34 octets less 4 bits: its first two, and ones behind the header
@@ -265,7 +280,7 @@ case-6 =
       stated =
           wrote 14 16 (0xc4 ∷ 0x00 ∷ [])
           ∷ Answer.ReadAssign (record { cursor = window 14 16; answer = AccessAssignAnswer.Read traffic4 })
-          ∷ Answer.ReadAssign (record { cursor = window 0 16; answer = AccessAssignAnswer.Refused (record { number = 7; bit = 8 }) })
+          ∷ Answer.ReadAssign (record { cursor = window 0 16; answer = AccessAssignAnswer.Refused (record { number = 7; offset = 8 }) })
           ∷ [];
     }
 
@@ -322,15 +337,15 @@ abbrev pub case-10 : Row
 case-10 =
     record {
       computed =
-          Answer.Step (stepAnswer (step resourceCodec (ones 0x01 0x11) 268 0))
-          ∷ Answer.Step (stepAnswer (step resourceCodec (ones 0x01 0x19) 268 0))
+          Answer.Step (stepAnswer (step downlinkReader (ones 0x01 0x11) 268 0))
+          ∷ Answer.Step (stepAnswer (step downlinkReader (ones 0x01 0x19) 268 0))
           ∷ [];
       stated =
           Answer.Step
           (StepAnswer.Entry
           (BlockEntry.Resource
           (record { bit = 0; end = 268; header = ssi1 34 false; «content_start» = 43; «content_end» = 268 })))
-          ∷ Answer.Step (StepAnswer.Entry (BlockEntry.Refused (record { bit = 0; end = PduEnd.Unknown; refusal = record { number = 8; bit = 7 } })))
+          ∷ Answer.Step (StepAnswer.Entry (BlockEntry.Refused (record { bit = 0; end = PduEnd.Unknown; refusal = record { number = 8; offset = 7 } })))
           ∷ [];
     }
 
@@ -365,10 +380,10 @@ listing =
           ∷ block 124 (replicate 16 0xff)
           (counts 0
           ∷ counts 446
-          ∷ adds LengthIndication.Mark62 34
-          ∷ adds LengthIndication.Mark63 481
+          ∷ adds LengthIndication.SecondSlotStolen 34
+          ∷ adds LengthIndication.FragStart 481
           ∷ Call.finish
-          ∷ adds LengthIndication.Mark63 0
+          ∷ adds LengthIndication.FragStart 0
           ∷ Call.finish
           ∷ [])
           ∷ [];
@@ -380,5 +395,65 @@ listing =
           ∷ [];
     }
 
+-- a write that is refused leaves the cursor at 0 and the bytes
+abbrev pub notWritten : (number n : ℕ) → List ℕ → Answer
+notWritten j n bytes = Answer.Wrote (record { cursor = window 0 n; answer = Outcome.Refused j }) bytes
+
+abbrev pub resourceWritten : MacResource → Answer
+resourceWritten h = Answer.Wrote (macResourceWrite (replicate 6 0) (window 0 48) h) (macResourceWritten (replicate 6 0) (window 0 48) h)
+
+-- "pattern 0, none"
+abbrev pub patternless : ChanAllocElement
+patternless =
+    record {
+      «alloc_type» = ChanAllocType.Replace;
+      «ts_assigned» = record { ts1 = true; ts2 = false; ts3 = false; ts4 = false };
+      «ul_dl_assigned» = UlDlAssignment.Both;
+      «clch_permission» = false;
+      «cell_change_flag» = false;
+      «carrier_num» = 1;
+      «mon_pattern» = 0;
+      «frame18_mon_pattern» = Frame18Pattern.Without;
+    }
+
+-- "delay count 14"
+abbrev pub delay14 : BasicSlotgrant
+delay14 = record { «capacity_allocation» = BasicSlotgrantCapAlloc.Grant4Slots; «granting_delay» = BasicSlotgrantGrantingDelay.DelayNOpportunities 14 }
+
+-- The refusal table, the example of each number: 1 "3 bits left, 4 read"; 2 "269 bits into 268"; 3 "label 1024"; 4 "first bits 01b"; 5 "flag 1";
+-- 6 "direction 0"; 9 "null, fill set"; 10 "mode 1, SSI 1"; 11; 12 "all zeros"; 13 "count 9, one byte"; 14. Those of 7 and 8 are cases 6 and 11
+abbrev pub refusals : Row
+refusals =
+    record {
+      computed =
+          Answer.ReadField (readBits (0xff ∷ []) (window 5 8) 4)
+          ∷ block 268 (replicate 34 0) (counts 226 ∷ [])
+          ∷ resourceWritten (plain 6 false 0 (DownlinkAddress.EventLabel 1024))
+          ∷ Answer.ReadResource (macResourceAt (0x40 ∷ 0x00 ∷ []) (window 0 16))
+          ∷ Answer.ReadAllocation (channelAllocationAt (0x23 ∷ 0x00 ∷ 0x06 ∷ 0x80 ∷ []) (window 0 32))
+          ∷ Answer.ReadAllocation (channelAllocationAt (0x20 ∷ 0x00 ∷ 0x04 ∷ 0x80 ∷ []) (window 0 32))
+          ∷ resourceWritten (plain 2 true 0 DownlinkAddress.NullPdu)
+          ∷ resourceWritten (plain 6 false 1 (DownlinkAddress.Ssi SsiType.Ssi 1))
+          ∷ Answer.Wrote (channelAllocationWrite (replicate 4 0) (window 0 32) patternless) (channelAllocationWritten (replicate 4 0) (window 0 32) patternless)
+          ∷ Answer.Step (stepAnswer (step downlinkReader (0x20 ∷ 0x31 ∷ 0x00 ∷ 0x00 ∷ 0x01 ∷ 0x00 ∷ []) 48 0))
+          ∷ Answer.OpenedWindow (opened 1 9)
+          ∷ Answer.Wrote (slotgrantWrite (0xff ∷ []) (window 0 8) delay14) (slotgrantWritten (0xff ∷ []) (window 0 8) delay14)
+          ∷ [];
+      stated =
+          Answer.ReadField (record { cursor = window 5 8; answer = BitsAnswer.Refused (record { number = 1; offset = 0 }) })
+          ∷ Answer.Block (refused 0 2 ∷ []) (replicate 34 0) (walked (record { bit = 0; pdu = Pdu.null 0 } ∷ []) 16)
+          ∷ notWritten 3 48 (replicate 6 0)
+          ∷ Answer.ReadResource (record { cursor = window 0 16; answer = MacResourceAnswer.Refused (record { number = 4; offset = 0 }) })
+          ∷ Answer.ReadAllocation (record { cursor = window 0 32; answer = ChannelAllocationAnswer.Refused (record { number = 5; offset = 22 }) })
+          ∷ Answer.ReadAllocation (record { cursor = window 0 32; answer = ChannelAllocationAnswer.Refused (record { number = 6; offset = 6 }) })
+          ∷ notWritten 9 48 (replicate 6 0)
+          ∷ notWritten 10 48 (replicate 6 0)
+          ∷ notWritten 11 32 (replicate 4 0)
+          ∷ Answer.Step (StepAnswer.Entry (BlockEntry.Refused (record { bit = 0; end = PduEnd.At 48; refusal = record { number = 12; offset = 43 } })))
+          ∷ Answer.OpenedWindow (Opened.Refused (record { number = 13; offset = 0 }))
+          ∷ notWritten 14 8 (0xff ∷ [])
+          ∷ [];
+    }
+
 abbrev pub cases : List Row
-cases = case-1 ∷ case-2 ∷ case-3 ∷ case-4 ∷ case-5 ∷ case-6 ∷ case-7 ∷ case-8 ∷ case-9 ∷ case-10 ∷ case-11 ∷ listing ∷ []
+cases = case-1 ∷ case-2 ∷ case-3 ∷ case-4 ∷ case-5 ∷ case-6 ∷ case-7 ∷ case-8 ∷ case-9 ∷ case-10 ∷ case-11 ∷ listing ∷ refusals ∷ []

@@ -1,4 +1,5 @@
 // What every header codec is made of: several fields by one read, several fields by one write, and the decisions that all calls share.
+pub mod encoded;
 pub mod piece;
 
 use tetra_core::bitbuffer;
@@ -7,34 +8,16 @@ use tetra_core::refusal;
 use tetra_core::refusal::Refusal;
 ghost use mathlib.Core.Path.{_≡_};
 ghost use Prim.Native.Nat.{_+_, _≤_, _<_};
+ghost use lib.Dec.{ltb};
 ghost use lib.ListN.{length};
 ghost use Rattle.bits.specs.Bits.{digit};
-ghost use Rattle.tetra_core.specs.BitBuffer.{moved, remaining};
+ghost use Rattle.tetra_core.specs.Refusal.{unless};
+ghost use Rattle.tetra_core.specs.BitBuffer.{moved};
 ghost use Rattle.tetra_core.specs.Laws.Windows.{Good};
-ghost use Rattle.codec.specs.Feed.{shortAt};
-ghost use Rattle.codec.specs.Header.{within, Word, Left};
-ghost use Rattle.codec.specs.Ahead.{Held, NextBits, Ready, aheadOn, aheadCut};
+ghost use Rattle.codec.specs.Words.{shortAt};
+ghost use Rattle.codec.specs.Header.{within};
+ghost use Rattle.codec.specs.Ahead.{Held, NextBits, Ready, advanced, endingIn};
 ghost use Rattle.codec.specs.Write.{refusalAt};
-
-// The bits of a header that are left from the offset o on.
-pub fn left(s: &[u8], c: Cursor, o: usize) -> usize
-    requires { ⌜ Good (length (now s)) c ⌝ }
-    ensures { λ r. ⌜ Left (now (s .entry)) c o r ⌝ }
-{
-    let size = c.end - c.pos;
-    if size < o {
-        return 0;
-    }
-    size - o
-}
-
-// The n bits of a header from the offset o on, as a number.
-pub fn word(s: &[u8], c: Cursor, o: usize, n: usize) -> u64
-    requires { ⌜ Good (length (now s)) c × (o + n ≤ remaining c) × (n ≤ 64) ⌝ }
-    ensures { λ r. ⌜ Word (within (now (s .entry)) c) o n r ⌝ }
-{
-    bits::word::get_bits(s, c.pos + o, n)
-}
 
 // The bits of a header from the offset at on: so many are left, and the first of them stand in a word, behind its used highest bits. Parts
 // that take no more than what is there are read from this number, and no byte is loaded twice.
@@ -50,25 +33,25 @@ pub fn load(s: &[u8], c: Cursor, o: usize) -> Ahead
     requires { ⌜ Good (length (now s)) c ⌝ }
     ensures { λ r. ⌜ Held (within (now (s .entry)) c) r × Ready r 64 × (r .at ≡ o) ⌝ }
 {
-    let left = left(s, c, o);
-    if left < 1 {
+    let size = c.end - c.pos;
+    if size <= o {
         return Ahead {
             at: o,
-            left,
+            left: 0,
             word: 0,
             used: 0,
         };
     }
     Ahead {
         at: o,
-        left,
+        left: size - o,
         word: bits::word::get_ahead(s, c.pos + o),
         used: 0,
     }
 }
 
 // The next n bits as a number.
-pub fn take(a: Ahead, n: usize) -> u64
+pub fn next_bits(a: Ahead, n: usize) -> u64
     requires { ⌜ Ready a n × (0 < n) ⌝ }
     ensures { λ r. ⌜ NextBits a n r ⌝ }
 {
@@ -76,9 +59,9 @@ pub fn take(a: Ahead, n: usize) -> u64
 }
 
 // What is ahead n bits on.
-pub fn on(a: Ahead, n: usize) -> Ahead
+pub fn advance(a: Ahead, n: usize) -> Ahead
     requires { ⌜ Ready a n × (n ≤ a .left) ⌝ }
-    ensures { λ r. ⌜ r ≡ aheadOn a n ⌝ }
+    ensures { λ r. ⌜ r ≡ advanced a n ⌝ }
 {
     Ahead {
         at: a.at + n,
@@ -89,8 +72,8 @@ pub fn on(a: Ahead, n: usize) -> Ahead
 }
 
 // The same of a header that ends left bits from here.
-pub fn cut(a: Ahead, left: usize) -> Ahead
-    ensures { λ r. ⌜ r ≡ aheadCut a left ⌝ }
+pub fn ending_in(a: Ahead, left: usize) -> Ahead
+    ensures { λ r. ⌜ r ≡ endingIn a left ⌝ }
 {
     Ahead {
         at: a.at,
@@ -100,10 +83,24 @@ pub fn cut(a: Ahead, left: usize) -> Ahead
     }
 }
 
-fn wide(x: u8) -> usize
-    ensures { λ r. ⌜ r ≡ x ⌝ }
+// Nothing is refused.
+pub fn no_refusal() -> Refusal
+    ensures { λ r. ⌜ r ≡ record { number = 0; offset = 0 } ⌝ }
 {
-    x as usize
+    Refusal {
+        number: refusal::NONE,
+        offset: 0,
+    }
+}
+
+// The refusal of one field, at the offset o, that does not end within the bits left.
+pub fn field_past_end(o: usize) -> Refusal
+    ensures { λ r. ⌜ r ≡ record { number = 1; offset = o } ⌝ }
+{
+    Refusal {
+        number: refusal::READ_PAST_END,
+        offset: o,
+    }
 }
 
 // Where the first of the fields of these widths starts that does not end within the bits left.
@@ -113,7 +110,7 @@ fn reach(widths: &[u8], left: usize) -> usize
     let mut at: usize = 0;
     let mut i = 0;
     while i < widths.len() {
-        let n = wide(widths[i]);
+        let n = bits::word::widen(widths[i]) as usize;
         if left - at < n {
             return at;
         }
@@ -124,13 +121,13 @@ fn reach(widths: &[u8], left: usize) -> usize
 }
 
 // The refusal of fields of these widths, from the offset o on, that do not end within the bits left.
-pub fn short(widths: &[u8], left: usize, o: usize) -> Refusal
+pub fn fields_past_end(widths: &[u8], left: usize, o: usize) -> Refusal
     requires { ⌜ o + left < 18446744073709551616 ⌝ }
-    ensures { λ r. ⌜ r ≡ record { number = 1; bit = o + shortAt (now (widths .entry)) left } ⌝ }
+    ensures { λ r. ⌜ r ≡ record { number = 1; offset = o + shortAt (now (widths .entry)) left } ⌝ }
 {
     Refusal {
         number: refusal::READ_PAST_END,
-        bit: o + reach(widths, left),
+        offset: o + reach(widths, left),
     }
 }
 
@@ -139,6 +136,17 @@ pub fn bit(b: bool) -> u64
     ensures { λ r. ⌜ (r ≡ digit b) × (r < 2) ⌝ }
 {
     if b { 1 } else { 0 }
+}
+
+// Why a number that must be below a limit is not written, or 0.
+pub fn too_wide(v: u32, limit: u32) -> u8
+    ensures { λ r. ⌜ r ≡ unless (ltb v limit) 3 ⌝ }
+{
+    if v < limit {
+        0
+    } else {
+        refusal::VALUE_TOO_WIDE
+    }
 }
 
 // The cursor n bits on.

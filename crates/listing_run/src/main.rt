@@ -1,15 +1,17 @@
 // Lists the block of each file that an argument names, then writes blocks of 488 and 489 bits. Held to the file stdout.
 use block_lines::file;
 use block_lines::print;
+use block_rules::MOST_BITS;
+use block_rules::to_add::LengthIndication;
+use block_rules::to_add::ResourceToAdd;
 use libc::STDOUT_FILENO;
 use mac_block::writer;
-use mac_block::writer::LengthIndication;
-use mac_resource::elements::ChannelAllocation;
-use mac_resource::elements::PowerControl;
-use mac_resource::elements::SlotGranting;
 use mac_resource::mac_resource::MacResource;
+use optional_elements::allocation::OptionalAllocation;
+use optional_elements::power_control::OptionalPower;
+use optional_elements::slot_granting::OptionalGrant;
+use tetra_core::address::DownlinkAddress;
 use tetra_core::address::SsiType;
-use tetra_core::address::TetraAddress;
 use tetra_core::bitbuffer::Outcome;
 
 fn wide(x: u8) -> u64 {
@@ -52,17 +54,21 @@ fn list_arguments() {
 }
 
 // A header of 43 bits: SSI 1, no elements.
-fn to_ssi_1() -> MacResource {
-    MacResource {
+fn to_ssi_1() -> ResourceToAdd {
+    let header = MacResource {
         fill_bits: false,
         pos_of_grant: 0,
         encryption_mode: 0,
         random_access_flag: false,
         length_ind: 0,
-        addr: TetraAddress::Ssi(SsiType::Ssi, 1),
-        power_control_element: PowerControl::Without,
-        slot_granting_element: SlotGranting::Without,
-        chan_alloc_element: ChannelAllocation::Without,
+        addr: DownlinkAddress::Ssi(SsiType::Ssi, 1),
+        power_control_element: OptionalPower::Without,
+        slot_granting_element: OptionalGrant::Without,
+        chan_alloc_element: OptionalAllocation::Without,
+    };
+    ResourceToAdd {
+        header,
+        indication: LengthIndication::Counted,
     }
 }
 
@@ -77,22 +83,14 @@ fn add_one(content_bits: usize) {
     let mut block = [0u8; 61];
     text(b"add ");
     number(content_bits as u64);
-    let written = writer::add(
-        &mut block,
-        488,
-        0,
-        to_ssi_1(),
-        LengthIndication::Counted,
-        &content,
-        content_bits,
-    );
+    let written = writer::add(&mut block, MOST_BITS, 0, to_ssi_1(), &content, content_bits);
     let answer = written.answer;
     match answer {
         Outcome::Done => {
             text(b" octets ");
             number(length_of(block[0], block[1]));
             text(b"\n");
-            print::list(&block, 488);
+            print::list(&block, MOST_BITS);
         }
         Outcome::Refused(n) => {
             text(b" refused ");

@@ -15,7 +15,7 @@ use Rattle.codec.specs.Row.{Cell, cell, size, rowBits}
 use Rattle.codec.specs.Write.{writeAt, writtenAt}
 use Rattle.codec.specs.Cases.{flag}
 use Rattle.tetra_fields.specs.ReservationRequirement.{reservationNumber, reservationOf}
-use Rattle.tetra_fields.specs.UplinkHead.{readUplinkHead, uplinkRefusal, uplinkRow, uplinkSize, normalHead}
+use Rattle.tetra_fields.specs.UplinkHead.{headMost, readUplinkHead, uplinkRefusal, uplinkRow, uplinkSize, normalHead}
 use Rattle.tetra_fields.specs.declared.fields.uplink_head.UplinkHead.{UplinkHead}
 use Rattle.mac_access.specs.declared.mac_access.MacAccessOption.{MacAccessOption}
 use Rattle.mac_access.specs.declared.mac_access.MacAccessOption.the-variants.{Without, LengthInd, CapacityRequest}
@@ -24,6 +24,16 @@ use Rattle.mac_access.specs.declared.mac_access.MacAccessAnswer.{MacAcce
 use Rattle.mac_access.specs.declared.mac_access.MacAccessRead.{MacAccessRead}
 use Rattle.mac_access.specs.declared.mac_access.MacAccessPart.{MacAccessPart}
 use Rattle.mac_access.specs.declared.mac_access.OptionPart.{OptionPart}
+
+-- the bits behind a set option flag; the most with it; the most of a MAC-ACCESS
+abbrev pub chosenSize : ℕ
+chosenSize = 6
+
+abbrev pub optionMost : ℕ
+optionMost = 1 + chosenSize
+
+abbrev pub accessMost : ℕ
+accessMost = headMost + optionMost
 
 -- what every header has, and the whole
 abbrev pub headOf : MacAccess → UplinkHead

@@ -1,7 +1,7 @@
 // Clause 21.4.2.1, MAC-ACCESS: PDU type 1, fill 1, encrypted 1, address type 2, address, option flag 1 and, if set, 6 bits more.
 use codec::Ahead;
-use codec::piece;
-use codec::piece::Part;
+use codec::encoded;
+use codec::encoded::Encoded;
 use codec::piece::Piece;
 use tetra_core::address::UplinkAddress;
 use tetra_core::bitbuffer;
@@ -17,8 +17,32 @@ ghost use mathlib.Core.Path.{_≡_};
 ghost use Prim.Native.Nat.{_≤_};
 ghost use Rattle.codec.specs.Ahead.{Ready, ReadsNext};
 ghost use Rattle.codec.specs.Row.{rowBits, RowIs, size};
-ghost use Rattle.codec.specs.Piece.{Writes};
-ghost use Rattle.mac_access.specs.MacAccess.{macAccessOf, isNullPdu, isFragStart, readChosen, readOption, optionOut, readMacAccess, macAccessOut, macAccessAt, optionRow, macAccessRow, macAccessSize, optionRefusal, macAccessRefusal, macAccessWrite, macAccessWritten};
+ghost use Rattle.codec.specs.Encoded.{EncodesOne};
+ghost use Rattle.mac_access.specs.MacAccess.{chosenSize, optionMost, accessMost, macAccessOf, isNullPdu, isFragStart, readChosen, readOption, optionOut, readMacAccess, macAccessOut, macAccessAt, optionRow, macAccessRow, macAccessSize, optionRefusal, macAccessRefusal, macAccessWrite, macAccessWritten};
+
+// The bits of the PDU type.
+const TYPE_BITS: usize = 1;
+
+// The bits of what follows a set option flag.
+const CHOSEN_BITS: usize = 6;
+
+// The bits of a set option flag and of what follows it.
+const OPTION_BITS: usize = 7;
+
+// What the head is worth before these.
+const BEFORE_OPTION: u64 = 1 << 7;
+
+// What it is worth before a flag that is not set.
+const BEFORE_FLAG: u64 = 1 << 1;
+
+// What a set option flag is worth.
+const OPTION_FLAG: u64 = 1 << 6;
+
+// What the selector is worth; a length behind it is worth 1.
+const SELECTOR: u64 = 1 << 5;
+
+// What the fragment flag is worth; the reservation behind it is worth 1.
+const FRAGMENT: u64 = 1 << 4;
 
 // What follows the option flag.
 pub enum MacAccessOption {
@@ -75,12 +99,12 @@ fn no_option(refusal: Refusal) -> OptionPart
 }
 
 fn option_read(option: MacAccessOption, next: usize) -> OptionPart
-    ensures { λ r. ⌜ r ≡ record { refusal = record { number = 0; bit = 0 }; option = option; next = next } ⌝ }
+    ensures { λ r. ⌜ r ≡ record { refusal = record { number = 0; offset = 0 }; option = option; next = next } ⌝ }
 {
     OptionPart {
         refusal: Refusal {
             number: refusal::NONE,
-            bit: 0,
+            offset: 0,
         },
         option,
         next,
@@ -124,7 +148,7 @@ pub fn is_frag_start(h: MacAccess) -> bool
 
 // What follows a set option flag, which is ahead.
 fn read_chosen(a: Ahead) -> OptionPart
-    requires { ⌜ Ready a 6 ⌝ }
+    requires { ⌜ Ready a chosenSize ⌝ }
     ensures { λ r. ⌜ ReadsNext optionOut readChosen a r ⌝ }
 {
     let left = a.left;
@@ -132,35 +156,35 @@ fn read_chosen(a: Ahead) -> OptionPart
     if left < 1 {
         return no_option(Refusal {
             number: refusal::READ_PAST_END,
-            bit: o,
+            offset: o,
         });
     }
-    if left < 6 {
-        if codec::take(a, 1) == 0 {
+    if left < CHOSEN_BITS {
+        if codec::next_bits(a, 1) == 0 {
             return no_option(Refusal {
                 number: refusal::READ_PAST_END,
-                bit: o + 1,
+                offset: o + 1,
             });
         }
         let widths = [1u8, 4];
-        return no_option(codec::short(&widths, left - 1, o + 1));
+        return no_option(codec::fields_past_end(&widths, left - 1, o + 1));
     }
-    let x = codec::take(a, 6);
-    if (x >> 5) % 2 == 0 {
-        return option_read(MacAccessOption::LengthInd((x % 32) as u8), o + 6);
+    let x = codec::next_bits(a, CHOSEN_BITS);
+    if x / SELECTOR % 2 == 0 {
+        return option_read(MacAccessOption::LengthInd((x % 32) as u8), o + CHOSEN_BITS);
     }
     option_read(
         MacAccessOption::CapacityRequest(
-            (x >> 4) % 2 != 0,
+            x / FRAGMENT % 2 != 0,
             reservation_requirement::from_raw(x % 16),
         ),
-        o + 6,
+        o + CHOSEN_BITS,
     )
 }
 
 // The option flag that is ahead, and what follows it.
 fn read_option(a: Ahead) -> OptionPart
-    requires { ⌜ Ready a 7 ⌝ }
+    requires { ⌜ Ready a optionMost ⌝ }
     ensures { λ r. ⌜ ReadsNext optionOut readOption a r ⌝ }
 {
     let left = a.left;
@@ -168,23 +192,24 @@ fn read_option(a: Ahead) -> OptionPart
     if left < 1 {
         return no_option(Refusal {
             number: refusal::READ_PAST_END,
-            bit: o,
+            offset: o,
         });
     }
-    if codec::take(a, 1) == 0 {
+    if codec::next_bits(a, 1) == 0 {
         return option_read(MacAccessOption::Without, o + 1);
     }
-    read_chosen(codec::on(a, 1))
+    read_chosen(codec::advance(a, 1))
 }
 
 // A MAC-ACCESS, which is ahead: one word holds it.
 fn read_mac_access(a: Ahead) -> MacAccessPart
-    requires { ⌜ Ready a 37 ⌝ }
+    requires { ⌜ Ready a accessMost ⌝ }
     ensures { λ r. ⌜ ReadsNext macAccessOut readMacAccess a r ⌝ }
 {
-    let first = uplink_head::read_uplink_head(a, 1);
+    let first = uplink_head::read_uplink_head(a, TYPE_BITS);
     let no_head = first.refusal;
     let head = first.head;
+    let behind = first.after;
     if no_head.number != 0 {
         return MacAccessPart {
             refusal: no_head,
@@ -192,7 +217,7 @@ fn read_mac_access(a: Ahead) -> MacAccessPart
             next: 0,
         };
     }
-    let second = read_option(codec::on(a, first.size));
+    let second = read_option(behind);
     let refusal = second.refusal;
     let option = second.option;
     MacAccessPart {
@@ -211,7 +236,7 @@ pub fn from_bitbuf(s: &[u8], c: Cursor) -> MacAccessRead
             cursor: c,
             answer: MacAccessAnswer::Refused(Refusal {
                 number: refusal::BAD_WINDOW,
-                bit: 0,
+                offset: 0,
             }),
         };
     }
@@ -257,22 +282,22 @@ pub fn mac_access_refusal(h: MacAccess) -> u8
 
 // The bits of an option.
 fn option_size(option: MacAccessOption) -> usize
-    ensures { λ r. ⌜ (r ≡ size (optionRow option)) × (r ≤ 7) ⌝ }
+    ensures { λ r. ⌜ (r ≡ size (optionRow option)) × (r ≤ optionMost) ⌝ }
 {
     match option {
         MacAccessOption::Without => 1,
-        MacAccessOption::LengthInd(_) => 7,
-        MacAccessOption::CapacityRequest(_, _) => 7,
+        MacAccessOption::LengthInd(_) => OPTION_BITS,
+        MacAccessOption::CapacityRequest(_, _) => OPTION_BITS,
     }
 }
 
 // The bits of a MAC-ACCESS.
 pub fn mac_access_size(h: MacAccess) -> usize
-    ensures { λ r. ⌜ (r ≡ macAccessSize h) × (r ≤ 37) ⌝ }
+    ensures { λ r. ⌜ (r ≡ macAccessSize h) × (r ≤ accessMost) ⌝ }
 {
     let addr = h.addr;
     let option = h.option;
-    uplink_head::uplink_size(1, addr) + option_size(option)
+    uplink_head::uplink_size(TYPE_BITS, addr) + option_size(option)
 }
 
 // A MAC-ACCESS as one number.
@@ -288,29 +313,32 @@ fn mac_access_word(h: MacAccess) -> u64
         addr,
     });
     match option {
-        MacAccessOption::Without => head * 2,
-        MacAccessOption::LengthInd(n) => head * 128 + (1 * 64 + (0 * 32 + n as u64)),
+        MacAccessOption::Without => head * BEFORE_FLAG,
+        MacAccessOption::LengthInd(n) => {
+            head * BEFORE_OPTION + (1 * OPTION_FLAG + (0 * SELECTOR + n as u64))
+        }
         MacAccessOption::CapacityRequest(frag_flag, reservation_req) => {
             let frag = codec::bit(frag_flag);
             let req = reservation_requirement::into_raw(reservation_req);
-            head * 128 + (1 * 64 + (1 * 32 + (frag * 16 + req)))
+            head * BEFORE_OPTION + (1 * OPTION_FLAG + (1 * SELECTOR + (frag * FRAGMENT + req)))
         }
     }
 }
 
 // A MAC-ACCESS on its way to being written.
-fn mac_access_part(h: MacAccess) -> Part
-    ensures { λ r. ⌜ Writes (macAccessRefusal h) (rowBits (macAccessRow h)) r ⌝ }
+fn mac_access_encoded(h: MacAccess) -> Encoded
+    ensures { λ r. ⌜ EncodesOne (macAccessRefusal h) (macAccessSize h) (rowBits (macAccessRow h)) r ⌝ }
 {
     let number = mac_access_refusal(h);
+    let bits = mac_access_size(h);
     if number != 0 {
-        return piece::refused(number);
+        return encoded::refused(number, bits);
     }
-    Part {
+    Encoded {
         number,
         piece: Piece {
             value: mac_access_word(h),
-            bits: mac_access_size(h),
+            bits,
         },
     }
 }
@@ -319,5 +347,5 @@ fn mac_access_part(h: MacAccess) -> Part
 pub fn to_bitbuf(s: &mut [u8], c: Cursor, h: MacAccess) -> Moved
     ensures { λ r. ⌜ (r ≡ macAccessWrite (now (s .entry)) c h) × (now (s .exit) ≡ macAccessWritten (now (s .entry)) c h) ⌝ }
 {
-    piece::write_part(s, c, mac_access_part(h))
+    encoded::write(s, c, mac_access_encoded(h))
 }

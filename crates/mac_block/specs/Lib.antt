@@ -1,10 +1,4 @@
-pub mod Frame
-pub mod Codec
-pub mod Read
-pub mod Walk
-pub mod Writer
-pub mod Run
-pub mod Altered
-pub mod Demand3
-pub mod Resource
-pub mod Step
+pub mod LastOne
+pub mod Answers
+pub mod Added
+pub mod Laws

@@ -1,11 +1,14 @@
 // The writer of a block. Each call gets the bytes and the bit that the last one left.
 use crate::fill;
-use bits::run;
+use bits::span;
 use bits::word;
-use mac_resource::added;
-use mac_resource::added::AddedHeader;
+use block_rules::LEAST_BITS;
+use block_rules::MOST_BITS;
+use block_rules::to_add::LengthIndication;
+use block_rules::to_add::ResourceToAdd;
+use codec::encoded;
+use codec::encoded::EncodedHeader;
 use mac_resource::mac_resource as resource;
-use mac_resource::mac_resource::MacResource;
 use tetra_core::bitbuffer::Outcome;
 use tetra_core::quantity;
 use tetra_core::quantity::OctetCount;
@@ -17,25 +20,19 @@ ghost use lib.ListN.{length};
 ghost use Rattle.bits.specs.Bits.{bitsAt, putBits};
 ghost use Rattle.tetra_core.specs.Quantity.{octetsOf};
 ghost use Rattle.tetra_core.specs.BitBuffer.{outcome};
-ghost use Rattle.mac_resource.specs.Added.{Adds, Addable};
-ghost use Rattle.mac_block.specs.Writer.{lengthOf, pduSize, goodBit, writerAt, finishBits, finishRefusal, finishTo, finishAnswer, addCheck, addRefusal, addBits, addOf, addTo, addAnswer};
-ghost use Rattle.mac_block.specs.Resource.{resourceCodec, addedCodec, Puttable};
-
-// The length that a PDU is written with: its octets, or a mark that it takes the rest of the block.
-pub enum LengthIndication {
-    Counted,
-    Mark62,
-    Mark63,
-}
+ghost use Rattle.codec.specs.Encoded.{sizeOf, bitsWith, Settable};
+ghost use Rattle.block_rules.specs.Numbers.{mostBits};
+ghost use Rattle.block_rules.specs.Ending.{lengthOf, pduSize};
+ghost use Rattle.block_rules.specs.Writer.{goodBit, writerAt, finishBits, finishRefusal, finishTo, checkOf, refusalOf, pduBits, addCheck, addOf, addTo};
+ghost use Rattle.block_rules.specs.Downlink.{endingOf, downlinkWriter};
+ghost use Rattle.mac_block.specs.Answers.{finishAnswer, addAnswer};
+ghost use Rattle.mac_block.specs.Added.{mostHeaderBits, PuttablePdu, encodedTo, encodedAnswer};
 
 // The writer's bit after a call, and whether the call was done.
 pub struct Written {
     pub bit: usize,
     pub answer: Outcome,
 }
-
-// The bits of a null PDU of length 2.
-const NULL_BITS: usize = 16;
 
 // The first 64 bits of what closes a block that has room for a null PDU: the null PDU, 00 10 h, and fill.
 const CLOSING: u64 = 0x0010800000000000;
@@ -66,7 +63,7 @@ fn good_bit(bits: usize, bit: usize) -> bool
 
 // The octets of a PDU of so many bits of header and content.
 fn octets_of(total: usize) -> Octets
-    requires { ⌜ total ≤ 488 ⌝ }
+    requires { ⌜ total ≤ mostBits ⌝ }
     ensures { λ r. ⌜ (r .0 ≡ octetsOf total) × (r .0 ≤ 61) ⌝ }
 {
     match quantity::count_octets(total) {
@@ -78,28 +75,28 @@ fn octets_of(total: usize) -> Octets
 
 // The length field of a PDU of so many bits of header and content.
 fn length_of(indication: LengthIndication, total: usize) -> u8
-    requires { ⌜ total ≤ 488 ⌝ }
-    ensures { λ r. ⌜ (r ≡ lengthOf indication total) × (r < 64) ⌝ }
+    requires { ⌜ total ≤ mostBits ⌝ }
+    ensures { λ r. ⌜ (r ≡ lengthOf (endingOf indication) total) × (r < 64) ⌝ }
 {
     match indication {
         LengthIndication::Counted => octets_of(total).0,
-        LengthIndication::Mark62 => resource::MAC_RESOURCE_LENGTH_2ND_SLOT_STOLEN,
-        LengthIndication::Mark63 => resource::MAC_RESOURCE_LENGTH_FRAG_START,
+        LengthIndication::SecondSlotStolen => resource::MAC_RESOURCE_LENGTH_2ND_SLOT_STOLEN,
+        LengthIndication::FragStart => resource::MAC_RESOURCE_LENGTH_FRAG_START,
     }
 }
 
 // The bits that it takes up where left bits are left to the block's end.
 fn pdu_size(indication: LengthIndication, left: usize, total: usize) -> usize
-    requires { ⌜ total ≤ 488 ⌝ }
-    ensures { λ r. ⌜ r ≡ pduSize indication left total ⌝ }
+    requires { ⌜ total ≤ mostBits ⌝ }
+    ensures { λ r. ⌜ r ≡ pduSize (endingOf indication) left total ⌝ }
 {
     match indication {
         LengthIndication::Counted => {
             let bits = quantity::octets_to_bits(octets_of(total)).0 as usize;
-            word::least(bits, left)
+            word::min(bits, left)
         }
-        LengthIndication::Mark62 => left,
-        LengthIndication::Mark63 => left,
+        LengthIndication::SecondSlotStolen => left,
+        LengthIndication::FragStart => left,
     }
 }
 
@@ -116,27 +113,28 @@ fn finish_refusal(len: usize, bits: usize, bit: usize) -> u8
     0
 }
 
-// As add_check, of a header that was taken apart.
-fn check_sized(header: AddedHeader, content_bits: usize) -> u8
-    requires { ⌜ header .bits ≤ 92 ⌝ }
-    ensures { λ r. ⌜ r ≡ addCheck addedCodec header «content_bits» ⌝ }
+// Why a header of so many bits, which is itself refused by a number or by 0, is not added with its content to any block, or 0.
+fn check_sized(header_bits: usize, number: u8, content_bits: usize) -> u8
+    requires { ⌜ «header_bits» ≤ mostHeaderBits ⌝ }
+    ensures { λ r. ⌜ r ≡ checkOf «header_bits» number «content_bits» ⌝ }
 {
-    let header_bits = header.bits;
     // Before the sum, which cannot overflow then.
-    if crate::MOST_BITS < content_bits {
+    if MOST_BITS < content_bits {
         return refusal::LENGTH;
     }
-    if crate::MOST_BITS < header_bits + content_bits {
+    if MOST_BITS < header_bits + content_bits {
         return refusal::LENGTH;
     }
-    header.number
+    number
 }
 
-// Why a header with so many bits of content is not added to any block, or 0.
-pub fn add_check(header: MacResource, content_bits: usize) -> u8
-    ensures { λ r. ⌜ r ≡ addCheck resourceCodec header «content_bits» ⌝ }
+// Why a PDU with so many bits of content is not added to any block, or 0.
+pub fn add_check(pdu: ResourceToAdd, content_bits: usize) -> u8
+    ensures { λ r. ⌜ r ≡ addCheck downlinkWriter pdu «content_bits» ⌝ }
 {
-    check_sized(added::added_header(header), content_bits)
+    let header = pdu.header;
+    let e = resource::encode_to_add(header);
+    check_sized(encoded::size(e), e.number, content_bits)
 }
 
 // Why it is not added at a bit of a block, with the content in a slice of so many bytes, or 0.
@@ -144,12 +142,13 @@ fn add_refusal(
     len: usize,
     bits: usize,
     bit: usize,
-    header: AddedHeader,
+    header_bits: usize,
+    header_number: u8,
     slice: usize,
     content_bits: usize,
 ) -> u8
-    requires { ⌜ header .bits ≤ 92 ⌝ }
-    ensures { λ r. ⌜ r ≡ addRefusal addedCodec len bits bit header slice «content_bits» ⌝ }
+    requires { ⌜ «header_bits» ≤ mostHeaderBits ⌝ }
+    ensures { λ r. ⌜ r ≡ refusalOf len bits bit «header_bits» «header_number» slice «content_bits» ⌝ }
 {
     let number = finish_refusal(len, bits, bit);
     if number != 0 {
@@ -159,11 +158,11 @@ fn add_refusal(
     if slice < content_bits / 8 + (content_bits % 8 + 7) / 8 {
         return refusal::BAD_WINDOW;
     }
-    let number = check_sized(header, content_bits);
+    let number = check_sized(header_bits, header_number, content_bits);
     if number != 0 {
         return number;
     }
-    if bits - bit < header.bits + content_bits {
+    if bits - bit < header_bits + content_bits {
         return refusal::WRITE_PAST_END;
     }
     0
@@ -173,19 +172,26 @@ fn add_refusal(
 fn put_pdu(
     block: &mut [u8],
     bit: usize,
-    header: AddedHeader,
+    header: EncodedHeader,
     length_ind: u8,
     content: &[u8],
     content_bits: usize,
     fill: usize,
 )
-    requires { ⌜ Puttable bit header «length_ind» (length (now content)) «content_bits» fill (length (now block)) ⌝ }
-    ensures { λ r. ⌜ now (block .exit) ≡ putBits (now (block .entry)) bit (addBits addedCodec header «length_ind» (bitsAt (now (content .entry)) 0 «content_bits») fill) ⌝ }
+    requires { ⌜ PuttablePdu bit header «length_ind» (length (now content)) «content_bits» fill (length (now block)) ⌝ }
+    ensures { λ r. ⌜ now (block .exit) ≡ putBits (now (block .entry)) bit (pduBits (bitsWith header) «length_ind» (bitsAt (now (content .entry)) 0 «content_bits») fill) ⌝ }
 {
     let octet = bit / 8;
-    let header_bits = header.bits;
-    added::put_header(&mut block[octet..], 0, header, length_ind, fill != 0);
-    run::copy_run(block, bit + header_bits, content, 0, content_bits);
+    let header_bits = encoded::size(header);
+    encoded::put_header(
+        &mut block[octet..],
+        0,
+        refusal::NONE,
+        header,
+        length_ind,
+        fill != 0,
+    );
+    span::copy_span(block, bit + header_bits, content, 0, content_bits);
     fill::put_fill(&mut block[octet..], header_bits + content_bits, fill);
 }
 
@@ -194,19 +200,19 @@ fn put_add(
     block: &mut [u8],
     bits: usize,
     bit: usize,
-    header: AddedHeader,
+    header: EncodedHeader,
     indication: LengthIndication,
     content: &[u8],
     content_bits: usize,
     number: u8,
 ) -> usize
-    requires { ⌜ Addable header × (number ≡ addRefusal addedCodec (length (now block)) bits bit header (length (now content)) «content_bits») ⌝ }
-    ensures { λ r. ⌜ (r ≡ addTo addedCodec bits (writerAt (now (block .entry)) bit) (addOf header indication (now (content .entry)) «content_bits») .bit) × (now (block .exit) ≡ addTo addedCodec bits (writerAt (now (block .entry)) bit) (addOf header indication (now (content .entry)) «content_bits») .bytes) ⌝ }
+    requires { ⌜ Settable header × (number ≡ refusalOf (length (now block)) bits bit (sizeOf header) (header .number) (length (now content)) «content_bits») ⌝ }
+    ensures { λ r. ⌜ (r ≡ encodedTo bits (writerAt (now (block .entry)) bit) header (endingOf indication) (now (content .entry)) «content_bits» .bit) × (now (block .exit) ≡ encodedTo bits (writerAt (now (block .entry)) bit) header (endingOf indication) (now (content .entry)) «content_bits» .bytes) ⌝ }
 {
     if number != 0 {
         return bit;
     }
-    let total = header.bits + content_bits;
+    let total = encoded::size(header) + content_bits;
     let size = pdu_size(indication, bits - bit, total);
     let length_ind = length_of(indication, total);
     put_pdu(
@@ -221,22 +227,31 @@ fn put_add(
     bit + size
 }
 
-// As add, of a header that was taken apart, and so for every header that it may have been taken from.
-pub fn add_header(
+// As add, of a header on its way out.
+pub fn add_encoded(
     block: &mut [u8],
     bits: usize,
     bit: usize,
-    header: AddedHeader,
+    header: EncodedHeader,
     indication: LengthIndication,
     content: &[u8],
     content_bits: usize,
 ) -> Written
-    requires { ⌜ Addable header ⌝ }
-    ensures { λ r. ⌜ (r ≡ addAnswer addedCodec bits (writerAt (now (block .entry)) bit) (addOf header indication (now (content .entry)) «content_bits»)) × (now (block .exit) ≡ addTo addedCodec bits (writerAt (now (block .entry)) bit) (addOf header indication (now (content .entry)) «content_bits») .bytes) × ((h : MacResource) → Adds h header → (r ≡ addAnswer resourceCodec bits (writerAt (now (block .entry)) bit) (addOf h indication (now (content .entry)) «content_bits»)) × (now (block .exit) ≡ addTo resourceCodec bits (writerAt (now (block .entry)) bit) (addOf h indication (now (content .entry)) «content_bits») .bytes)) ⌝ }
+    requires { ⌜ Settable header ⌝ }
+    ensures { λ r. ⌜ (r ≡ encodedAnswer bits (writerAt (now (block .entry)) bit) header (endingOf indication) (now (content .entry)) «content_bits») × (now (block .exit) ≡ encodedTo bits (writerAt (now (block .entry)) bit) header (endingOf indication) (now (content .entry)) «content_bits» .bytes) ⌝ }
 {
     let len = block.len();
     let slice = content.len();
-    let number = add_refusal(len, bits, bit, header, slice, content_bits);
+    let header_bits = encoded::size(header);
+    let number = add_refusal(
+        len,
+        bits,
+        bit,
+        header_bits,
+        header.number,
+        slice,
+        content_bits,
+    );
     let after = put_add(
         block,
         bits,
@@ -258,15 +273,16 @@ pub fn add(
     block: &mut [u8],
     bits: usize,
     bit: usize,
-    header: MacResource,
-    indication: LengthIndication,
+    pdu: ResourceToAdd,
     content: &[u8],
     content_bits: usize,
 ) -> Written
-    ensures { λ r. ⌜ (r ≡ addAnswer resourceCodec bits (writerAt (now (block .entry)) bit) (addOf header indication (now (content .entry)) «content_bits»)) × (now (block .exit) ≡ addTo resourceCodec bits (writerAt (now (block .entry)) bit) (addOf header indication (now (content .entry)) «content_bits») .bytes) ⌝ }
+    ensures { λ r. ⌜ (r ≡ addAnswer downlinkWriter bits (writerAt (now (block .entry)) bit) (addOf pdu (now (content .entry)) «content_bits»)) × (now (block .exit) ≡ addTo downlinkWriter bits (writerAt (now (block .entry)) bit) (addOf pdu (now (content .entry)) «content_bits») .bytes) ⌝ }
 {
-    let parts = added::added_header(header);
-    add_header(block, bits, bit, parts, indication, content, content_bits)
+    let header = pdu.header;
+    let indication = pdu.indication;
+    let e = resource::encode_to_add(header);
+    add_encoded(block, bits, bit, e, indication, content, content_bits)
 }
 
 // What closes a block, put into the left bits of s from pos on: a null PDU if there is room for it, and fill.
@@ -274,7 +290,7 @@ fn put_closing(s: &mut [u8], pos: usize, left: usize)
     requires { ⌜ (pos + left ≤ 8 * length (now s)) × (pos + left ≤ 65536) ⌝ }
     ensures { λ r. ⌜ now (s .exit) ≡ putBits (now (s .entry)) pos (finishBits left) ⌝ }
 {
-    if left < NULL_BITS {
+    if left < LEAST_BITS {
         fill::put_short_fill(s, pos, left);
         return;
     }
@@ -283,9 +299,9 @@ fn put_closing(s: &mut [u8], pos: usize, left: usize)
         word::put_by_words(s, pos, left, CLOSING >> (64 - left));
         return;
     }
-    // Longer ones are rare. The run has a second caller, put_fill, and so stays out of line.
+    // Longer ones are rare. put_span has a second caller, put_fill, and so stays out of line.
     word::put_by_words(s, pos, 64, CLOSING);
-    run::put_run(s, pos + 64, left - 64, false);
+    span::put_span(s, pos + 64, left - 64, false);
 }
 
 // What closes a block, put into it, and the bit after it. A number other than 0 refuses it: then nothing is put, and the bit stays.

@@ -15,7 +15,7 @@ use Rattle.codec.specs.Row.{Cell, cell, rowBits}
 use Rattle.codec.specs.Write.{writeAt, writtenAt}
 use Rattle.codec.specs.Cases.{flag}
 use Rattle.tetra_fields.specs.ReservationRequirement.{reservationNumber, reservationOf}
-use Rattle.tetra_fields.specs.UplinkHead.{readUplinkHead, uplinkRefusal, uplinkRow, uplinkSize, normalHead}
+use Rattle.tetra_fields.specs.UplinkHead.{headMost, readUplinkHead, uplinkRefusal, uplinkRow, uplinkSize, normalHead}
 use Rattle.tetra_fields.specs.declared.fields.uplink_head.UplinkHead.{UplinkHead}
 use Rattle.mac_data.specs.declared.mac_data.MacDataOption.{MacDataOption}
 use Rattle.mac_data.specs.declared.mac_data.MacDataOption.the-variants.{LengthInd, CapacityRequest}
@@ -24,6 +24,13 @@ use Rattle.mac_data.specs.declared.mac_data.MacDataAnswer.{MacDataAnswer
 use Rattle.mac_data.specs.declared.mac_data.MacDataRead.{MacDataRead}
 use Rattle.mac_data.specs.declared.mac_data.MacDataPart.{MacDataPart}
 use Rattle.mac_data.specs.declared.mac_data.OptionPart.{OptionPart}
+
+-- the bits behind the address, and the most bits of a MAC-DATA
+abbrev pub optionSize : ℕ
+optionSize = 7
+
+abbrev pub dataMost : ℕ
+dataMost = headMost + optionSize
 
 -- what every header has, and the whole
 abbrev pub headOf : MacData → UplinkHead
@@ -85,7 +92,7 @@ unfoldable pub macDataRow : MacData → List Cell
 macDataRow h = uplinkRow 2 (headOf h) ++ optionRow (h .option)
 
 unfoldable pub macDataSize : MacData → ℕ
-macDataSize h = uplinkSize 2 (h .addr) + 7
+macDataSize h = uplinkSize 2 (h .addr) + optionSize
 
 abbrev pub macDataWrite : List ℕ → Cursor → MacData → Moved
 macDataWrite s c h = writeAt s c (macDataRefusal h) (rowBits (macDataRow h))

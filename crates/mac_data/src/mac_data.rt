@@ -1,7 +1,7 @@
 // Clause 21.4.2.3, MAC-DATA: PDU type 2, fill 1, encrypted 1, address type 2, address, selector 1 and 6 bits more.
 use codec::Ahead;
-use codec::piece;
-use codec::piece::Part;
+use codec::encoded;
+use codec::encoded::Encoded;
 use codec::piece::Piece;
 use tetra_core::address::UplinkAddress;
 use tetra_core::bitbuffer;
@@ -17,8 +17,26 @@ ghost use mathlib.Core.Path.{_≡_};
 ghost use Prim.Native.Nat.{_≤_};
 ghost use Rattle.codec.specs.Ahead.{Ready, ReadsNext};
 ghost use Rattle.codec.specs.Row.{rowBits, RowIs};
-ghost use Rattle.codec.specs.Piece.{Writes};
-ghost use Rattle.mac_data.specs.MacData.{macDataOf, readOption, optionOut, readMacData, macDataOut, macDataAt, optionRow, macDataRow, macDataSize, optionRefusal, macDataRefusal, macDataWrite, macDataWritten};
+ghost use Rattle.codec.specs.Encoded.{EncodesOne};
+ghost use Rattle.mac_data.specs.MacData.{optionSize, dataMost, macDataOf, readOption, optionOut, readMacData, macDataOut, macDataAt, optionRow, macDataRow, macDataSize, optionRefusal, macDataRefusal, macDataWrite, macDataWritten};
+
+// The bits of the PDU type.
+const TYPE_BITS: usize = 2;
+
+// The bits of what follows the address.
+const OPTION_BITS: usize = 7;
+
+// What the head is worth before these.
+const BEFORE_OPTION: u64 = 1 << 7;
+
+// What the selector is worth; a length behind it is worth 1.
+const SELECTOR: u64 = 1 << 6;
+
+// What the fragment flag is worth.
+const FRAGMENT: u64 = 1 << 5;
+
+// What the reservation is worth; the reserved bit behind it is worth 1.
+const RESERVATION: u64 = 1 << 1;
 
 // What follows the address.
 pub enum MacDataOption {
@@ -73,12 +91,12 @@ fn no_option(refusal: Refusal) -> OptionPart
 }
 
 fn option_read(option: MacDataOption, next: usize) -> OptionPart
-    ensures { λ r. ⌜ r ≡ record { refusal = record { number = 0; bit = 0 }; option = option; next = next } ⌝ }
+    ensures { λ r. ⌜ r ≡ record { refusal = record { number = 0; offset = 0 }; option = option; next = next } ⌝ }
 {
     OptionPart {
         refusal: Refusal {
             number: refusal::NONE,
-            bit: 0,
+            offset: 0,
         },
         option,
         next,
@@ -100,7 +118,7 @@ fn header_of(head: UplinkHead, option: MacDataOption) -> MacData
 
 // What follows the address, which is ahead.
 fn read_option(a: Ahead) -> OptionPart
-    requires { ⌜ Ready a 7 ⌝ }
+    requires { ⌜ Ready a optionSize ⌝ }
     ensures { λ r. ⌜ ReadsNext optionOut readOption a r ⌝ }
 {
     let left = a.left;
@@ -108,40 +126,41 @@ fn read_option(a: Ahead) -> OptionPart
     if left < 1 {
         return no_option(Refusal {
             number: refusal::READ_PAST_END,
-            bit: o,
+            offset: o,
         });
     }
-    if left < 7 {
-        if codec::take(a, 1) == 0 {
+    if left < OPTION_BITS {
+        if codec::next_bits(a, 1) == 0 {
             return no_option(Refusal {
                 number: refusal::READ_PAST_END,
-                bit: o + 1,
+                offset: o + 1,
             });
         }
         let widths = [1u8, 4, 1];
-        return no_option(codec::short(&widths, left - 1, o + 1));
+        return no_option(codec::fields_past_end(&widths, left - 1, o + 1));
     }
-    let x = codec::take(a, 7);
-    if (x >> 6) % 2 == 0 {
-        return option_read(MacDataOption::LengthInd((x % 64) as u8), o + 7);
+    let x = codec::next_bits(a, OPTION_BITS);
+    if x / SELECTOR % 2 == 0 {
+        return option_read(MacDataOption::LengthInd((x % 64) as u8), o + OPTION_BITS);
     }
     option_read(
         MacDataOption::CapacityRequest(
-            (x >> 5) % 2 != 0,
-            reservation_requirement::from_raw((x >> 1) % 16),
+            x / FRAGMENT % 2 != 0,
+            reservation_requirement::from_raw(x / RESERVATION % 16),
         ),
-        o + 7,
+        o + OPTION_BITS,
     )
 }
 
 // A MAC-DATA, which is ahead: one word holds it.
 fn read_mac_data(a: Ahead) -> MacDataPart
-    requires { ⌜ Ready a 37 ⌝ }
+    requires { ⌜ Ready a dataMost ⌝ }
     ensures { λ r. ⌜ ReadsNext macDataOut readMacData a r ⌝ }
 {
-    let first = uplink_head::read_uplink_head(a, 2);
+    let first = uplink_head::read_uplink_head(a, TYPE_BITS);
     let no_head = first.refusal;
     let head = first.head;
+    let behind = first.after;
     if no_head.number != 0 {
         return MacDataPart {
             refusal: no_head,
@@ -149,7 +168,7 @@ fn read_mac_data(a: Ahead) -> MacDataPart
             next: 0,
         };
     }
-    let second = read_option(codec::on(a, first.size));
+    let second = read_option(behind);
     let refusal = second.refusal;
     let option = second.option;
     MacDataPart {
@@ -168,7 +187,7 @@ pub fn from_bitbuf(s: &[u8], c: Cursor) -> MacDataRead
             cursor: c,
             answer: MacDataAnswer::Refused(Refusal {
                 number: refusal::BAD_WINDOW,
-                bit: 0,
+                offset: 0,
             }),
         };
     }
@@ -213,23 +232,23 @@ pub fn mac_data_refusal(h: MacData) -> u8
 
 // The bits of a MAC-DATA.
 pub fn mac_data_size(h: MacData) -> usize
-    ensures { λ r. ⌜ (r ≡ macDataSize h) × (r ≤ 37) ⌝ }
+    ensures { λ r. ⌜ (r ≡ macDataSize h) × (r ≤ dataMost) ⌝ }
 {
     let addr = h.addr;
-    uplink_head::uplink_size(2, addr) + 7
+    uplink_head::uplink_size(TYPE_BITS, addr) + OPTION_BITS
 }
 
 // The 7 bits of an option as one number.
 fn option_word(option: MacDataOption) -> u64
     requires { ⌜ optionRefusal option ≡ 0 ⌝ }
-    ensures { λ r. ⌜ RowIs (optionRow option) 7 r ⌝ }
+    ensures { λ r. ⌜ RowIs (optionRow option) optionSize r ⌝ }
 {
     match option {
-        MacDataOption::LengthInd(n) => 0 * 64 + n as u64,
+        MacDataOption::LengthInd(n) => 0 * SELECTOR + n as u64,
         MacDataOption::CapacityRequest(frag_flag, reservation_req) => {
             let frag = codec::bit(frag_flag);
             let req = reservation_requirement::into_raw(reservation_req);
-            1 * 64 + (frag * 32 + (req * 2 + 0))
+            1 * SELECTOR + (frag * FRAGMENT + (req * RESERVATION + 0))
         }
     }
 }
@@ -246,22 +265,23 @@ fn mac_data_word(h: MacData) -> u64
         encrypted: h.encrypted,
         addr,
     });
-    head * 128 + option_word(option)
+    head * BEFORE_OPTION + option_word(option)
 }
 
 // A MAC-DATA on its way to being written.
-fn mac_data_part(h: MacData) -> Part
-    ensures { λ r. ⌜ Writes (macDataRefusal h) (rowBits (macDataRow h)) r ⌝ }
+fn mac_data_encoded(h: MacData) -> Encoded
+    ensures { λ r. ⌜ EncodesOne (macDataRefusal h) (macDataSize h) (rowBits (macDataRow h)) r ⌝ }
 {
     let number = mac_data_refusal(h);
+    let bits = mac_data_size(h);
     if number != 0 {
-        return piece::refused(number);
+        return encoded::refused(number, bits);
     }
-    Part {
+    Encoded {
         number,
         piece: Piece {
             value: mac_data_word(h),
-            bits: mac_data_size(h),
+            bits,
         },
     }
 }
@@ -270,5 +290,5 @@ fn mac_data_part(h: MacData) -> Part
 pub fn to_bitbuf(s: &mut [u8], c: Cursor, h: MacData) -> Moved
     ensures { λ r. ⌜ (r ≡ macDataWrite (now (s .entry)) c h) × (now (s .exit) ≡ macDataWritten (now (s .entry)) c h) ⌝ }
 {
-    piece::write_part(s, c, mac_data_part(h))
+    encoded::write(s, c, mac_data_encoded(h))
 }

@@ -1,9 +1,9 @@
 // The calls of the proved library by the numbers that the list has for them.
 use crate::list::Record;
 use tetra_mac::access;
+use tetra_mac::allocation;
 use tetra_mac::assign;
 use tetra_mac::bitbuffer;
-use tetra_mac::channel_allocation;
 use tetra_mac::data;
 use tetra_mac::slotgrant;
 
@@ -13,7 +13,7 @@ const MALFORMED: u64 = 255;
 fn read(kind: u64, s: &[u8], start: usize, pos: usize, end: usize, out: &mut [u64; 32]) -> u64 {
     match kind {
         0 => slotgrant::tetra_slotgrant_read(s, start, pos, end, out),
-        1 => channel_allocation::tetra_channel_allocation_read(s, start, pos, end, out),
+        1 => allocation::tetra_channel_allocation_read(s, start, pos, end, out),
         2 => tetra_resource::tetra_mac_resource_read(s, start, pos, end, out),
         3 => assign::tetra_access_assign_read(s, start, pos, end, out),
         4 => access::tetra_mac_access_read(s, start, pos, end, out),
@@ -33,7 +33,7 @@ fn write(
 ) -> u64 {
     match kind {
         0 => slotgrant::tetra_slotgrant_write(s, start, pos, end, words, out),
-        1 => channel_allocation::tetra_channel_allocation_write(s, start, pos, end, words, out),
+        1 => allocation::tetra_channel_allocation_write(s, start, pos, end, words, out),
         2 => tetra_resource::tetra_mac_resource_write(s, start, pos, end, words, out),
         3 => assign::tetra_access_assign_write(s, start, pos, end, words, out),
         4 => access::tetra_mac_access_write(s, start, pos, end, words, out),
@@ -71,7 +71,7 @@ fn bit(
     let b = word(words, 1);
     match call {
         32 => bitbuffer::tetra_read_bits(s, start, pos, end, a as usize, out),
-        33 => bitbuffer::tetra_peek_bits(s, start, pos, end, offset(a), b as usize, out),
+        33 => bitbuffer::tetra_peek_bits_posoffset(s, start, pos, end, offset(a), b as usize, out),
         34 => bitbuffer::tetra_write_bits(s, start, pos, end, a, b as usize, out),
         _ => MALFORMED,
     }
@@ -80,9 +80,9 @@ fn bit(
 // The bits of content stand behind the record that they are counted with.
 fn length(call: u64, words: &[u64], out: &mut [u64; 32]) -> u64 {
     match call {
-        40 => channel_allocation::tetra_channel_allocation_len(words, out),
-        41 => tetra_resource::tetra_mac_resource_header_len(words, out),
-        42 => tetra_resource::tetra_mac_resource_update_len(words, word(words, 25) as usize, out),
+        40 => allocation::tetra_channel_allocation_len(words, out),
+        41 => tetra_resource::tetra_mac_resource_compute_header_len(words, out),
+        42 => tetra_resource::tetra_mac_resource_len_and_fill(words, word(words, 25) as usize, out),
         _ => MALFORMED,
     }
 }

@@ -2,6 +2,7 @@
 // PDU), first bit; whether it has an end, the bit after it; content start, content end; refusal number, refused field's bit from the PDU's
 // first bit; and the header's record of 25 words. What there is not is 0. A library apart from tetra_mac: there each reader and writer of a
 // MAC-RESOURCE keeps its one caller, into which the compiler puts it.
+use block_rules::to_add::LengthIndication;
 use mac_block::reader;
 use mac_block::reader::BlockEntry;
 use mac_block::reader::PduEnd;
@@ -9,7 +10,6 @@ use mac_block::reader::RefusedPdu;
 use mac_block::reader::ResourcePdu;
 use mac_block::reader::StepAnswer;
 use mac_block::writer;
-use mac_block::writer::LengthIndication;
 use mac_block::writer::Written;
 use tetra_core::bitbuffer::Cursor;
 use tetra_core::bitbuffer::Moved;
@@ -88,7 +88,7 @@ fn put_refused(out: &mut [u64], p: RefusedPdu)
         0,
         0,
         p.refusal.number as u64,
-        p.refusal.bit as u64,
+        p.refusal.offset as u64,
     ];
     put_bare(out, &words);
 }
@@ -146,8 +146,8 @@ fn length_value(code: u64) -> LengthIndication
 {
     match code {
         0 => LengthIndication::Counted,
-        62 => LengthIndication::Mark62,
-        _ => LengthIndication::Mark63,
+        62 => LengthIndication::SecondSlotStolen,
+        _ => LengthIndication::FragStart,
     }
 }
 
@@ -195,9 +195,9 @@ pub extern "C" fn tetra_block_add(
     if !add_known(length, words) {
         return record::MALFORMED;
     }
-    let header = tetra_resource::added_of(words);
+    let header = tetra_resource::encoded_to_add(words);
     let indication = length_value(length);
-    let done = writer::add_header(block, bits, bit, header, indication, content, content_bits);
+    let done = writer::add_encoded(block, bits, bit, header, indication, content, content_bits);
     writer_moved(out, bits, done)
 }
 

@@ -14,7 +14,7 @@ use Rattle.bits.specs.Bits.{digit, odd, val, bitsOfNat, bitsAt, getBits, putBit
 use Rattle.tetra_core.specs.BitBuffer.{areBits}
 use Rattle.bits.specs.Laws.Values.{digit-odd, val-nil, val-cons, val-append, val-lt, bits-suc, length-bitsOfNat}
 use Rattle.bits.specs.Laws.Reads.{bitsAt-add, length-bitsAt, bitsOfNat-getBits}
-use Rattle.bits.specs.Laws.Runs.{goes-on}
+use Rattle.bits.specs.Laws.Spans.{goes-on}
 
 -- the bit i of the k bits of x
 pub bit-at : (k i x : ℕ) → i < k → getD (map digit (bitsOfNat k x)) i 0 ≡ x / 2 ^ (k - 1 - i) % 2

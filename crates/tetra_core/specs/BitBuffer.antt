@@ -41,7 +41,7 @@ moved c n = at c (c .pos + n)
 -- a number; "a bare field or peek gives 0" for the place of its refusal
 abbrev pub answer : ℕ → ℕ → BitsAnswer
 answer zero v = Value v
-answer (suc j) v = Refused (record { number = suc j; bit = 0 })
+answer (suc j) v = Refused (record { number = suc j; offset = 0 })
 
 -- the cursor after a call, which a refusal leaves as it was
 abbrev pub after : ℕ → Cursor → Cursor → Cursor
@@ -66,7 +66,7 @@ moves j c d = record { cursor = after j c d; answer = outcome j }
 
 -- a read that is refused by a number
 abbrev pub readRefused : Cursor → ℕ → BitsRead
-readRefused c j = record { cursor = c; answer = Refused (record { number = j; bit = 0 }) }
+readRefused c j = record { cursor = c; answer = Refused (record { number = j; offset = 0 }) }
 
 -- ---- reads
 
@@ -145,10 +145,10 @@ runWritten b s c n = bytesAfter (roomRefusal 2 (length s) c n) s (putBits s (c .
 
 -- n bits of the slice s at its cursor c into the slice t at its cursor d
 unfoldable pub copyRefusal : ℕ → Cursor → ℕ → Cursor → ℕ → ℕ
-copyRefusal lent d lens c n =
+copyRefusal tLen d sLen c n =
     first
-    (unless (goodWindow lent d) 13
-    ∷ unless (goodWindow lens c) 13
+    (unless (goodWindow tLen d) 13
+    ∷ unless (goodWindow sLen c) 13
     ∷ unless (leb n (remaining c)) 1
     ∷ unless (leb n (remaining d)) 2
     ∷ [])
@@ -196,7 +196,7 @@ seekRel len c o = seekPlace len c (placeOf (signed (c .pos) +ℤ o))
 -- a window over the first n bits: "bit count over limit or slice"
 abbrev pub windowOf : Bool → Cursor → Opened
 windowOf true c = Opened'.Window c
-windowOf false c = Opened'.Refused (record { number = 13; bit = 0 })
+windowOf false c = Opened'.Refused (record { number = 13; offset = 0 })
 
 unfoldable pub opened : ℕ → ℕ → Opened
 opened len n = windowOf (goodWindow len (record { start = 0; pos = 0; end = n })) (record { start = 0; pos = 0; end = n })

@@ -13,7 +13,7 @@ pub enum SsiType {
 }
 
 // The address of a MAC-RESOURCE, clause 21.4.3.1: SSI, USSI and SMI have 24 bits, an event label 10, a usage marker 6.
-pub enum TetraAddress {
+pub enum DownlinkAddress {
     NullPdu,
     Ssi(SsiType, u32),
     EventLabel(u16),
@@ -33,18 +33,18 @@ pub enum UplinkAddress {
 }
 
 // The address type of a MAC-RESOURCE, 3 bits.
-pub fn address_type(a: TetraAddress) -> u8
+pub fn address_type(a: DownlinkAddress) -> u8
     ensures { λ r. ⌜ r ≡ addressType a ⌝ }
 {
     match a {
-        TetraAddress::NullPdu => 0,
-        TetraAddress::Ssi(_, _) => 1,
-        TetraAddress::EventLabel(_) => 2,
-        TetraAddress::Ussi(_) => 3,
-        TetraAddress::Smi(_) => 4,
-        TetraAddress::SsiAndEventLabel(_, _, _) => 5,
-        TetraAddress::SsiAndUsageMarker(_, _, _) => 6,
-        TetraAddress::SmiAndEventLabel(_, _) => 7,
+        DownlinkAddress::NullPdu => 0,
+        DownlinkAddress::Ssi(_, _) => 1,
+        DownlinkAddress::EventLabel(_) => 2,
+        DownlinkAddress::Ussi(_) => 3,
+        DownlinkAddress::Smi(_) => 4,
+        DownlinkAddress::SsiAndEventLabel(_, _, _) => 5,
+        DownlinkAddress::SsiAndUsageMarker(_, _, _) => 6,
+        DownlinkAddress::SmiAndEventLabel(_, _) => 7,
     }
 }
 

@@ -1,5 +1,5 @@
 // Bits one to a byte, and bits as whole bytes.
-use bits::run;
+use bits::span;
 use bits::word;
 ghost use mathlib.Core.Path.{_≡_};
 ghost use mathlib.Core.List.{_++_, map};
@@ -16,8 +16,8 @@ pub(crate) fn copy_octets(buf: &mut [u8], s: &[u8], pos: usize, n: usize)
     requires { ⌜ (pos + n ≤ 8 * length (now s)) × (octetsOf n ≤ length (now buf)) × (pos + n ≤ 65536) ⌝ }
     ensures { λ r. ⌜ now (buf .exit) ≡ putBits (now (buf .entry)) 0 (bitsAt (now (s .entry)) pos n ++ replicate (fillOf n) false) ⌝ }
 {
-    run::copy_run(buf, 0, s, pos, n);
-    run::put_run(buf, n, 8 * ((n + 7) / 8) - n, false);
+    span::copy_span(buf, 0, s, pos, n);
+    span::put_span(buf, n, 8 * ((n + 7) / 8) - n, false);
 }
 
 // The k low bits of x as bytes 0 and 1 of buf from at on.
@@ -40,7 +40,7 @@ pub(crate) fn spread_all(buf: &mut [u8], s: &[u8], pos: usize)
     let n = buf.len();
     let mut done: usize = 0;
     while done < n {
-        let k = word::least(n - done, 64);
+        let k = word::min(n - done, 64);
         let x = word::get_bits(s, pos + done, k);
         spread(buf, done, k, x);
         done += k;
@@ -84,7 +84,7 @@ pub(crate) fn gather_all(s: &mut [u8], pos: usize, buf: &[u8])
     let n = buf.len();
     let mut done: usize = 0;
     while done < n {
-        let k = word::least(n - done, 64);
+        let k = word::min(n - done, 64);
         word::put_bits(s, pos + done, k, gather(buf, done, k));
         done += k;
     }

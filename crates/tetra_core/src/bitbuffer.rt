@@ -3,7 +3,7 @@
 use crate::bitarr;
 use crate::refusal;
 use crate::refusal::Refusal;
-use bits::run;
+use bits::span;
 use bits::word;
 ghost use mathlib.Core.Path.{_≡_};
 ghost use Prim.Native.Nat.{_+_, _-_, _*_, _^_, _≤_, _<_};
@@ -101,7 +101,7 @@ fn read_refusal(len: usize, c: Cursor, p: usize, num_bits: usize) -> u8
 }
 
 // Whether value is a number of num_bits bits.
-fn is_wide_enough(value: u64, num_bits: usize) -> bool
+fn value_fits(value: u64, num_bits: usize) -> bool
     requires { ⌜ «num_bits» ≤ 64 ⌝ }
     ensures { λ r. ⌜ r ≡ ltb value (2 ^ «num_bits») ⌝ }
 {
@@ -121,7 +121,7 @@ fn write_refusal(len: usize, c: Cursor, value: u64, num_bits: usize) -> u8
     if 64 < num_bits {
         return refusal::WRITE_PAST_END;
     }
-    if !is_wide_enough(value, num_bits) {
+    if !value_fits(value, num_bits) {
         return refusal::VALUE_TOO_WIDE;
     }
     if c.end - c.pos < num_bits {
@@ -164,7 +164,7 @@ fn refused(c: Cursor, number: u8) -> BitsRead
 {
     BitsRead {
         cursor: c,
-        answer: BitsAnswer::Refused(Refusal { number, bit: 0 }),
+        answer: BitsAnswer::Refused(Refusal { number, offset: 0 }),
     }
 }
 
@@ -365,7 +365,7 @@ fn write_run(s: &mut [u8], c: Cursor, num_bits: usize, ones: bool) -> Moved
         };
     }
     let pos = c.pos;
-    run::put_run(s, pos, num_bits, ones);
+    span::put_span(s, pos, num_bits, ones);
     Moved {
         cursor: moved_to(c, pos + num_bits),
         answer: Outcome::Done,
@@ -387,13 +387,13 @@ pub fn write_ones(s: &mut [u8], c: Cursor, num_bits: usize) -> Moved
 }
 
 // Why num_bits bits at c are not copied to d, or 0.
-fn copy_refusal(lent: usize, d: Cursor, lens: usize, c: Cursor, num_bits: usize) -> u8
-    ensures { λ r. ⌜ r ≡ copyRefusal lent d lens c «num_bits» ⌝ }
+fn copy_refusal(t_len: usize, d: Cursor, s_len: usize, c: Cursor, num_bits: usize) -> u8
+    ensures { λ r. ⌜ r ≡ copyRefusal «t_len» d «s_len» c «num_bits» ⌝ }
 {
-    if !good_window(lent, d) {
+    if !good_window(t_len, d) {
         return refusal::BAD_WINDOW;
     }
-    if !good_window(lens, c) {
+    if !good_window(s_len, c) {
         return refusal::BAD_WINDOW;
     }
     if c.end - c.pos < num_bits {
@@ -419,7 +419,7 @@ pub fn copy_bits(t: &mut [u8], d: Cursor, s: &[u8], c: Cursor, num_bits: usize) 
     }
     let to = d.pos;
     let from = c.pos;
-    run::copy_run(t, to, s, from, num_bits);
+    span::copy_span(t, to, s, from, num_bits);
     Copied {
         cursor: moved_to(d, to + num_bits),
         source: moved_to(c, from + num_bits),
@@ -474,7 +474,7 @@ fn window_count(len: usize, c: Cursor, a: usize, b: usize) -> BitsAnswer
     }
     BitsAnswer::Refused(Refusal {
         number: refusal::BAD_WINDOW,
-        bit: 0,
+        offset: 0,
     })
 }
 
@@ -647,7 +647,7 @@ pub fn new(s: &[u8], len_bits: usize) -> Opened
     }
     Opened::Refused(Refusal {
         number: refusal::BAD_WINDOW,
-        bit: 0,
+        offset: 0,
     })
 }
 
@@ -661,6 +661,6 @@ pub fn from_bytes(s: &[u8]) -> Opened
     }
     Opened::Refused(Refusal {
         number: refusal::BAD_WINDOW,
-        bit: 0,
+        offset: 0,
     })
 }

@@ -36,6 +36,6 @@ pub const DELAY_COUNT: u8 = 14;
 // the parts of an answer's cases lie on each other whole: then the compiler keeps answers in registers. For the same reason a part of a
 // MAC-RESOURCE is no enum, but a struct with a refusal beside its value, of number 0 where nothing is refused.
 pub struct Refusal {
-    pub bit: usize,
+    pub offset: usize,
     pub number: u8,
 }

@@ -82,9 +82,13 @@ readSlotgrant = do
   delay ← field 4 done
   done (record { «capacity_allocation» = capAllocOf capacity; «granting_delay» = delayOf delay })
 
+-- its bits
+abbrev pub slotgrantSize : ℕ
+slotgrantSize = 8
+
 -- the answer of a part at the offset o as an outcome
 abbrev pub slotgrantOut : ℕ → List Bool → SlotgrantPart → Out BasicSlotgrant
-slotgrantOut o h p = partOut (p .refusal) (got (p .grant) (drop (o + 8) h) (o + 8))
+slotgrantOut o h p = partOut (p .refusal) (got (p .grant) (drop (o + slotgrantSize) h) (o + slotgrantSize))
 
 unfoldable pub slotgrantAt : List ℕ → Cursor → SlotgrantRead
 slotgrantAt = atCursor readSlotgrant (λ c a. record { cursor = c; answer = a }) SlotgrantAnswer.Read SlotgrantAnswer.Refused

@@ -1,6 +1,5 @@
 -- The laws of the fields that other crates cite.
 pub mod BasicSlotgrant
-pub mod ChannelAllocation
 pub mod ReservationRequirement
 pub mod UplinkAddress
 pub mod UplinkHead

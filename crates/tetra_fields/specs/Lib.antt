@@ -1,5 +1,4 @@
 pub mod BasicSlotgrant
-pub mod ChannelAllocation
 pub mod ReservationRequirement
 pub mod UplinkAddress
 pub mod UplinkHead

@@ -1,6 +1,6 @@
 -- The address of a MAC-ACCESS or MAC-DATA (document 01): "address type 2 (0 SSI, 1 label, 2 USSI, 3 SMI), address"; "SSI, USSI and SMI have
 -- 24 bits, label 10".
-use Prim.Native.Nat.{ℕ, _+_, _^_}
+use Prim.Native.Nat.{ℕ, _^_}
 use mathlib.Core.List.{List, [], _∷_}
 use mathlib.Core.Bool.{Bool, not, cond}
 use lib.ListN.{drop, getD}
@@ -15,9 +15,13 @@ use Rattle.codec.specs.Reader.{Out, got, Reader, done, field, _>>=_}
 use Rattle.codec.specs.Row.{Cell, cell}
 use Rattle.tetra_fields.specs.declared.fields.uplink_address.UplinkAddressPart.{UplinkAddressPart}
 
+-- the most bits of an address
+abbrev pub uplinkMost : ℕ
+uplinkMost = 24
+
 -- the bits of an address of a type
 unfoldable pub uplinkWidth : ℕ → ℕ
-uplinkWidth kind = cond (eqb kind 1) 10 24
+uplinkWidth kind = cond (eqb kind 1) 10 uplinkMost
 
 -- ---- what is read
 
@@ -31,8 +35,8 @@ readUplinkAddress kind = do
   done (uplinkOf kind v)
 
 -- a part's answer as an outcome
-abbrev pub uplinkAddressOut : ℕ → ℕ → List Bool → UplinkAddressPart → Out UplinkAddress
-uplinkAddressOut kind o h p = partOut (p .refusal) (got (p .addr) (drop (o + uplinkWidth kind) h) (o + uplinkWidth kind))
+abbrev pub uplinkAddressOut : List Bool → UplinkAddressPart → Out UplinkAddress
+uplinkAddressOut h p = partOut (p .refusal) (got (p .addr) (drop (p .after .at) h) (p .after .at))
 
 -- ---- what is written
 

@@ -9,13 +9,21 @@ use Rattle.tetra_core.specs.Address.{uplinkAddressType}
 use Rattle.bits.specs.Bits.{digit}
 use Rattle.tetra_core.specs.Refusal.{first}
 use Rattle.tetra_core.specs.declared.address.UplinkAddress.{UplinkAddress}
+use Rattle.tetra_core.specs.declared.refusal.Refusal.{Refusal}
 use Rattle.codec.specs.Header.{partOut}
-use Rattle.codec.specs.Reader.{Out, got, Reader, done, refuse, field, here, choose, _>>=_}
+use Rattle.codec.specs.Reader.{Out, got, refused, Reader, done, refuse, field, here, choose, _>>=_}
 use Rattle.codec.specs.Row.{Cell, cell}
 use Rattle.codec.specs.Cases.{flag}
-use Rattle.tetra_fields.specs.UplinkAddress.{uplinkWidth, readUplinkAddress, encryptionRefusal, uplinkAddressRefusal, uplinkAddressRow, normalUplink}
+use Rattle.tetra_fields.specs.UplinkAddress.{uplinkMost, uplinkWidth, readUplinkAddress, encryptionRefusal, uplinkAddressRefusal, uplinkAddressRow, normalUplink}
 use Rattle.tetra_fields.specs.declared.fields.uplink_head.UplinkHead.{UplinkHead}
 use Rattle.tetra_fields.specs.declared.fields.uplink_head.UplinkHeadPart.{UplinkHeadPart}
+
+-- the bits between the type and the address; the most of a head, whose type has 2
+abbrev pub behindType : ℕ
+behindType = 4
+
+abbrev pub headMost : ℕ
+headMost = 2 + behindType + uplinkMost
 
 -- ---- what is read
 
@@ -36,8 +44,12 @@ readUplinkHead w = do
   choose (not (eqb type 0)) (refuse 4 at) readUplinkBody
 
 -- a part's answer as an outcome
-abbrev pub uplinkHeadOut : ℕ → List Bool → UplinkHeadPart → Out UplinkHead
-uplinkHeadOut o h p = partOut (p .refusal) (got (p .head) (drop (o + p .size) h) (o + p .size))
+abbrev pub uplinkHeadOut : List Bool → UplinkHeadPart → Out UplinkHead
+uplinkHeadOut h p = partOut (p .refusal) (got (p .head) (drop (p .after .at) h) (p .after .at))
+
+-- a refusal as one
+abbrev pub cutOff : List Bool → Refusal → Out UplinkHead
+cutOff h r = refused (r .number) (r .offset)
 
 -- ---- what is written
 
@@ -53,7 +65,7 @@ uplinkRow w h = cell w 0 ∷ uplinkBodyRow h
 
 -- how many bits these are
 abbrev pub bodySize : UplinkAddress → ℕ
-bodySize a = 4 + uplinkWidth (uplinkAddressType a)
+bodySize a = behindType + uplinkWidth (uplinkAddressType a)
 
 abbrev pub uplinkSize : ℕ → UplinkAddress → ℕ
 uplinkSize w a = w + bodySize a

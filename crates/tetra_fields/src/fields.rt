@@ -1,5 +1,4 @@
 // Elements of several fields.
 pub mod basic_slotgrant;
-pub mod channel_allocation;
 pub mod uplink_address;
 pub mod uplink_head;

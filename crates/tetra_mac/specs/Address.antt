@@ -10,8 +10,8 @@ use Rattle.tetra_core.specs.declared.address.SsiType.{SsiType}
 use Rattle.tetra_core.specs.declared.address.SsiType.the-variants as Kind'
 use Rattle.tetra_core.specs.declared.address.UplinkAddress.{UplinkAddress}
 use Rattle.tetra_core.specs.declared.address.UplinkAddress.the-variants as Uplink'
-use Rattle.tetra_core.specs.declared.address.TetraAddress.{TetraAddress}
-use Rattle.tetra_core.specs.declared.address.TetraAddress.the-variants as Address'
+use Rattle.tetra_core.specs.declared.address.DownlinkAddress.{DownlinkAddress}
+use Rattle.tetra_core.specs.declared.address.DownlinkAddress.the-variants as Address'
 
 -- ---- the kind of an SSI
 
@@ -51,7 +51,7 @@ uplinkValue type kind v = getD (uplinks kind v) type (Uplink'.Smi (min v 4294967
 
 -- ---- downlink addresses
 
-abbrev pub addressKind : TetraAddress → ℕ
+abbrev pub addressKind : DownlinkAddress → ℕ
 addressKind Address'.NullPdu = 0
 addressKind (Address'.Ssi k v) = ssiKind k
 addressKind (Address'.EventLabel l) = 0
@@ -61,7 +61,7 @@ addressKind (Address'.SsiAndEventLabel k v l) = ssiKind k
 addressKind (Address'.SsiAndUsageMarker k v m) = ssiKind k
 addressKind (Address'.SmiAndEventLabel v l) = 0
 
-abbrev pub addressFirst : TetraAddress → ℕ
+abbrev pub addressFirst : DownlinkAddress → ℕ
 addressFirst Address'.NullPdu = 0
 addressFirst (Address'.Ssi k v) = v
 addressFirst (Address'.EventLabel l) = l
@@ -71,7 +71,7 @@ addressFirst (Address'.SsiAndEventLabel k v l) = v
 addressFirst (Address'.SsiAndUsageMarker k v m) = v
 addressFirst (Address'.SmiAndEventLabel v l) = v
 
-abbrev pub addressSecond : TetraAddress → ℕ
+abbrev pub addressSecond : DownlinkAddress → ℕ
 addressSecond Address'.NullPdu = 0
 addressSecond (Address'.Ssi k v) = 0
 addressSecond (Address'.EventLabel l) = 0
@@ -89,7 +89,7 @@ unfoldable pub addressKnown : ℕ → ℕ → Bool
 addressKnown type kind = getD (addressKnowns kind) type false
 
 -- of the types 0 to 6; 7 is the last
-abbrev pub addresses : SsiType → ℕ → ℕ → List TetraAddress
+abbrev pub addresses : SsiType → ℕ → ℕ → List DownlinkAddress
 addresses k a b =
     Address'.NullPdu
     ∷ Address'.Ssi k (min a 4294967295)
@@ -100,5 +100,5 @@ addresses k a b =
     ∷ Address'.SsiAndUsageMarker k (min a 4294967295) (min b 255)
     ∷ []
 
-unfoldable pub addressValue : ℕ → ℕ → ℕ → ℕ → TetraAddress
+unfoldable pub addressValue : ℕ → ℕ → ℕ → ℕ → DownlinkAddress
 addressValue type kind a b = getD (addresses (ssiOfKind kind) a b) type (Address'.SmiAndEventLabel (min a 4294967295) (min b 65535))

@@ -23,4 +23,4 @@ bitsWriteReply s c value n out = writeReply (λ v. writeBits s c v n) (λ v. wri
 -- the bit of a refusal, or 0
 abbrev pub bitsBit : BitsAnswer → ℕ
 bitsBit (Value v) = 0
-bitsBit (Refused r) = r .bit
+bitsBit (Refused r) = r .offset

@@ -9,14 +9,14 @@ use lib.Dec.{eqb, leb}
 use Rattle.bits.specs.Bits.{digit}
 use Rattle.tetra_core.specs.declared.bitbuffer.Cursor.{Cursor}
 use Rattle.codec.specs.Cases.{flag}
-use Rattle.tetra_fields.specs.ChannelAllocation.{allocTypeNumber, allocTypeOf, ulDlNumber, ulDlOf, timeslotsNumber, timeslotsOf, frame18Number, channelAllocationAt, channelAllocationWrite, channelAllocationWritten, computeLen}
-use Rattle.tetra_fields.specs.declared.fields.channel_allocation.Frame18Pattern.{Frame18Pattern}
-use Rattle.tetra_fields.specs.declared.fields.channel_allocation.Frame18Pattern.the-variants.{Without, Pattern}
-use Rattle.tetra_fields.specs.declared.fields.channel_allocation.ChanAllocElement.{ChanAllocElement}
-use Rattle.tetra_fields.specs.declared.fields.channel_allocation.ChannelAllocationAnswer.{ChannelAllocationAnswer}
-use Rattle.tetra_fields.specs.declared.fields.channel_allocation.ChannelAllocationAnswer.the-variants.{Read, Refused}
-use Rattle.tetra_fields.specs.declared.fields.channel_allocation.ChanAllocLen.{ChanAllocLen}
-use Rattle.tetra_fields.specs.declared.fields.channel_allocation.ChanAllocLen.the-variants as Len'
+use Rattle.channel_allocation.specs.ChannelAllocation.{allocTypeNumber, allocTypeOf, ulDlNumber, ulDlOf, timeslotsNumber, timeslotsOf, frame18Number, channelAllocationAt, channelAllocationWrite, channelAllocationWritten, computeLen}
+use Rattle.channel_allocation.specs.declared.channel_allocation.Frame18Pattern.{Frame18Pattern}
+use Rattle.channel_allocation.specs.declared.channel_allocation.Frame18Pattern.the-variants.{Without, Pattern}
+use Rattle.channel_allocation.specs.declared.channel_allocation.ChanAllocElement.{ChanAllocElement}
+use Rattle.channel_allocation.specs.declared.channel_allocation.ChannelAllocationAnswer.{ChannelAllocationAnswer}
+use Rattle.channel_allocation.specs.declared.channel_allocation.ChannelAllocationAnswer.the-variants.{Read, Refused}
+use Rattle.channel_allocation.specs.declared.channel_allocation.ChanAllocLen.{ChanAllocLen}
+use Rattle.channel_allocation.specs.declared.channel_allocation.ChanAllocLen.the-variants as Len'
 use Rattle.tetra_mac.specs.Reply.{Reply, WriteReply, givenReply, deniedReply, countedReply, replied, readReply, writeReply, recordReply, valueIf, word}
 
 -- ---- the words of a channel allocation

@@ -45,7 +45,7 @@ givenReply out at ws = replied 0 (putFirst out (at ∷ ws))
 
 -- "number + 256 * bit, the refusal's number and, for a read, the first bit of the refused field"
 abbrev pub statusOf : Refusal → ℕ
-statusOf r = r .number + 256 * r .bit
+statusOf r = r .number + 256 * r .offset
 
 abbrev pub deniedReply : List ℕ → ℕ → Refusal → Reply
 deniedReply out at r = replied (statusOf r) (putFirst out (at ∷ []))

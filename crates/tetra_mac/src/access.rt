@@ -14,6 +14,27 @@ ghost use lib.ListN.{length};
 ghost use Rattle.tetra_mac.specs.Reply.{replied, wrote, window};
 ghost use Rattle.tetra_mac.specs.MacAccess.{optionKind, optionFirst, optionReservation, optionKnown, optionValue, macAccessWords, macAccessKnown, macAccessValue, macAccessReadReply, macAccessWriteReply};
 
+// The places of the record, which MAC-DATA has too, and its words; a read has the cursor before them.
+const FILL_BITS: usize = 0;
+
+const ENCRYPTED: usize = 1;
+
+const ADDRESS_TYPE: usize = 2;
+
+const SSI_KIND: usize = 3;
+
+const ADDRESS: usize = 4;
+
+pub(crate) const OPTION: usize = 5;
+
+const OPTION_FIRST: usize = 6;
+
+const RESERVATION: usize = 7;
+
+const WORDS: usize = 8;
+
+pub(crate) const READ_WORDS: usize = WORDS + 1;
+
 fn option_kind(o: MacAccessOption) -> u64
     ensures { λ r. ⌜ r ≡ optionKind o ⌝ }
 {
@@ -92,13 +113,13 @@ pub(crate) fn mac_access_words(h: MacAccess) -> [u64; 8]
 pub(crate) fn mac_access_known(words: &[u64]) -> bool
     ensures { λ r. ⌜ r ≡ macAccessKnown (now (words .entry)) ⌝ }
 {
-    if words.len() < 8 {
+    if words.len() < WORDS {
         return false;
     }
-    if !address::uplink_known(words[2], words[3]) {
+    if !address::uplink_known(words[ADDRESS_TYPE], words[SSI_KIND]) {
         return false;
     }
-    option_known(words[5], words[7])
+    option_known(words[OPTION], words[RESERVATION])
 }
 
 // The MAC-ACCESS of words whose codes are known.
@@ -107,10 +128,10 @@ pub(crate) fn mac_access_value(words: &[u64]) -> MacAccess
     ensures { λ r. ⌜ r ≡ macAccessValue (now (words .entry)) ⌝ }
 {
     MacAccess {
-        fill_bits: words[0] != 0,
-        encrypted: words[1] != 0,
-        addr: address::uplink_value(words[2], words[3], words[4]),
-        option: option_value(words[5], words[6], words[7]),
+        fill_bits: words[FILL_BITS] != 0,
+        encrypted: words[ENCRYPTED] != 0,
+        addr: address::uplink_value(words[ADDRESS_TYPE], words[SSI_KIND], words[ADDRESS]),
+        option: option_value(words[OPTION], words[OPTION_FIRST], words[RESERVATION]),
     }
 }
 
@@ -124,7 +145,7 @@ pub extern "C" fn tetra_mac_access_read(
 ) -> u64
     ensures { λ r. ⌜ replied r (now (out .exit)) ≡ macAccessReadReply (now (s .entry)) (window start pos end) (now (out .entry)) ⌝ }
 {
-    if out.len() < 9 {
+    if out.len() < READ_WORDS {
         return record::MALFORMED;
     }
     let done = mac_access::mac_access::from_bitbuf(s, Cursor { start, pos, end });

@@ -1,7 +1,7 @@
 // Addresses as words: address type, SSI kind, and one number in the uplink, two in the downlink. A type has only some of them.
 use crate::record;
+use tetra_core::address::DownlinkAddress;
 use tetra_core::address::SsiType;
-use tetra_core::address::TetraAddress;
 use tetra_core::address::UplinkAddress;
 ghost use mathlib.Core.Path.{_≡_};
 ghost use Rattle.tetra_mac.specs.Address.{ssiKind, ssiOfKind, uplinkKind, uplinkKnown, uplinkValue, addressKnown, addressValue};
@@ -85,25 +85,25 @@ pub fn address_known(addr_type: u64, kind: u64) -> bool
 }
 
 // The address of a type.
-pub fn address_value(addr_type: u64, kind: u64, a: u64, b: u64) -> TetraAddress
+pub fn address_value(addr_type: u64, kind: u64, a: u64, b: u64) -> DownlinkAddress
     ensures { λ r. ⌜ r ≡ addressValue «addr_type» kind a b ⌝ }
 {
     match addr_type {
-        0 => TetraAddress::NullPdu,
-        1 => TetraAddress::Ssi(ssi_of_kind(kind), record::number32(a)),
-        2 => TetraAddress::EventLabel(record::number16(a)),
-        3 => TetraAddress::Ussi(record::number32(a)),
-        4 => TetraAddress::Smi(record::number32(a)),
-        5 => TetraAddress::SsiAndEventLabel(
+        0 => DownlinkAddress::NullPdu,
+        1 => DownlinkAddress::Ssi(ssi_of_kind(kind), record::number32(a)),
+        2 => DownlinkAddress::EventLabel(record::number16(a)),
+        3 => DownlinkAddress::Ussi(record::number32(a)),
+        4 => DownlinkAddress::Smi(record::number32(a)),
+        5 => DownlinkAddress::SsiAndEventLabel(
             ssi_of_kind(kind),
             record::number32(a),
             record::number16(b),
         ),
-        6 => TetraAddress::SsiAndUsageMarker(
+        6 => DownlinkAddress::SsiAndUsageMarker(
             ssi_of_kind(kind),
             record::number32(a),
             record::number8(b),
         ),
-        _ => TetraAddress::SmiAndEventLabel(record::number32(a), record::number16(b)),
+        _ => DownlinkAddress::SmiAndEventLabel(record::number32(a), record::number16(b)),
     }
 }

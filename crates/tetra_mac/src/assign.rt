@@ -16,6 +16,21 @@ ghost use lib.ListN.{length};
 ghost use Rattle.tetra_mac.specs.Reply.{replied, wrote, window, word};
 ghost use Rattle.tetra_mac.specs.AccessAssign.{fieldWords, dlKind, dlTraffic, dlWords, ulKind, ulTraffic, ulWords, fieldKnown, fieldValue, dlValue, ulValue, oneKnown, twoKnown, accessAssignWords, accessAssignKnown, accessAssignValue, accessAssignReadReply, accessAssignWriteReply};
 
+// The places of the record, and its words; a read has the cursor before them.
+const HEADER: usize = 0;
+
+const ONE_FIRST: usize = 1;
+
+const ONE_SECOND: usize = 2;
+
+const TWO_FIRST: usize = 3;
+
+const TWO_SECOND: usize = 4;
+
+const WORDS: usize = 5;
+
+const READ_WORDS: usize = WORDS + 1;
+
 fn field_words(f: AccessField) -> [u64; 2]
     ensures { λ r. ⌜ r ≡ fieldWords f ⌝ }
 {
@@ -199,13 +214,13 @@ fn access_assign_words(a: AccessAssign) -> [u64; 5]
 fn access_assign_known(words: &[u64]) -> bool
     ensures { λ r. ⌜ r ≡ accessAssignKnown (now (words .entry)) ⌝ }
 {
-    if words.len() < 5 {
+    if words.len() < WORDS {
         return false;
     }
-    if !one_known(words[0], words[1], words[2]) {
+    if !one_known(words[HEADER], words[ONE_FIRST], words[ONE_SECOND]) {
         return false;
     }
-    two_known(words[0], words[3], words[4])
+    two_known(words[HEADER], words[TWO_FIRST], words[TWO_SECOND])
 }
 
 // The ACCESS-ASSIGN of words whose codes are known.
@@ -213,11 +228,11 @@ fn access_assign_value(words: &[u64]) -> AccessAssign
     requires { ⌜ 5 ≤ length (now words) ⌝ }
     ensures { λ r. ⌜ r ≡ accessAssignValue (now (words .entry)) ⌝ }
 {
-    let header = words[0];
-    let a = words[1];
-    let b = words[2];
-    let c = words[3];
-    let d = words[4];
+    let header = words[HEADER];
+    let a = words[ONE_FIRST];
+    let b = words[ONE_SECOND];
+    let c = words[TWO_FIRST];
+    let d = words[TWO_SECOND];
     match header {
         0 => AccessAssign::DownlinkCommonControlUplinkCommonOnly {
             access_field_1: field_value(a, b),
@@ -248,7 +263,7 @@ pub extern "C" fn tetra_access_assign_read(
 ) -> u64
     ensures { λ r. ⌜ replied r (now (out .exit)) ≡ accessAssignReadReply (now (s .entry)) (window start pos end) (now (out .entry)) ⌝ }
 {
-    if out.len() < 6 {
+    if out.len() < READ_WORDS {
         return record::MALFORMED;
     }
     let done = access_assign::access_assign::from_bitbuf(s, Cursor { start, pos, end });

@@ -48,7 +48,7 @@ pub extern "C" fn tetra_read_bits(
 
 // Reads num_bits bits so many bits from the cursor, before or behind it, and leaves it.
 #[no_mangle]
-pub extern "C" fn tetra_peek_bits(
+pub extern "C" fn tetra_peek_bits_posoffset(
     s: &[u8],
     start: usize,
     pos: usize,

@@ -64,7 +64,7 @@ fn mac_data_known(words: &[u64]) -> bool
     if !access::mac_access_known(words) {
         return false;
     }
-    words[5] != 0
+    words[access::OPTION] != 0
 }
 
 #[no_mangle]
@@ -77,7 +77,7 @@ pub extern "C" fn tetra_mac_data_read(
 ) -> u64
     ensures { λ r. ⌜ replied r (now (out .exit)) ≡ macDataReadReply (now (s .entry)) (window start pos end) (now (out .entry)) ⌝ }
 {
-    if out.len() < 9 {
+    if out.len() < access::READ_WORDS {
         return record::MALFORMED;
     }
     let done = mac_data::mac_data::from_bitbuf(s, Cursor { start, pos, end });

@@ -3,9 +3,9 @@
 // tetra_resource, those of the downlink block in tetra_block.
 pub mod access;
 pub mod address;
+pub mod allocation;
 pub mod assign;
 pub mod bitbuffer;
-pub mod channel_allocation;
 pub mod data;
 pub mod record;
 pub mod slotgrant;

@@ -35,15 +35,15 @@ pub(crate) fn give(out: &mut [u64], at: usize, words: &[u64]) -> u64
 
 // The status of a refused read: its number, and its bit behind the eight bits of the number.
 pub fn status(r: Refusal) -> u64
-    requires { ⌜ r .bit ≤ 65536 ⌝ }
+    requires { ⌜ r .offset ≤ 65536 ⌝ }
     ensures { λ n. ⌜ n ≡ statusOf r ⌝ }
 {
-    r.number as u64 + 256 * r.bit as u64
+    r.number as u64 + 256 * r.offset as u64
 }
 
 // Puts the cursor's bit into out: the status of a refused read.
 pub fn deny(out: &mut [u64], at: usize, r: Refusal) -> u64
-    requires { ⌜ (0 < length (now out)) × (r .bit ≤ 65536) ⌝ }
+    requires { ⌜ (0 < length (now out)) × (r .offset ≤ 65536) ⌝ }
     ensures { λ n. ⌜ replied n (now (out .exit)) ≡ deniedReply (now (out .entry)) at r ⌝ }
 {
     out[0] = at as u64;

@@ -12,6 +12,17 @@ ghost use lib.ListN.{length};
 ghost use Rattle.tetra_mac.specs.Reply.{replied, wrote, window};
 ghost use Rattle.tetra_mac.specs.Slotgrant.{delayKind, delayCount, delayValue, slotgrantWords, slotgrantKnown, slotgrantValue, slotgrantReadReply, slotgrantWriteReply};
 
+// The places of the record, and its words; a read has the cursor before them.
+const CAPACITY: usize = 0;
+
+const DELAY_KIND: usize = 1;
+
+const DELAY_COUNT: usize = 2;
+
+const WORDS: usize = 3;
+
+const READ_WORDS: usize = WORDS + 1;
+
 fn delay_kind(d: BasicSlotgrantGrantingDelay) -> u64
     ensures { λ r. ⌜ r ≡ delayKind d ⌝ }
 {
@@ -63,13 +74,13 @@ pub fn slotgrant_words(g: BasicSlotgrant) -> [u64; 3]
 pub fn slotgrant_known(words: &[u64]) -> bool
     ensures { λ r. ⌜ r ≡ slotgrantKnown (now (words .entry)) ⌝ }
 {
-    if words.len() < 3 {
+    if words.len() < WORDS {
         return false;
     }
-    if 15 < words[0] {
+    if 15 < words[CAPACITY] {
         return false;
     }
-    if 3 < words[1] {
+    if 3 < words[DELAY_KIND] {
         return false;
     }
     true
@@ -81,8 +92,8 @@ pub fn slotgrant_value(words: &[u64]) -> BasicSlotgrant
     ensures { λ r. ⌜ r ≡ slotgrantValue (now (words .entry)) ⌝ }
 {
     BasicSlotgrant {
-        capacity_allocation: cap_alloc::from_raw(words[0]),
-        granting_delay: delay_value(words[1], record::number8(words[2])),
+        capacity_allocation: cap_alloc::from_raw(words[CAPACITY]),
+        granting_delay: delay_value(words[DELAY_KIND], record::number8(words[DELAY_COUNT])),
     }
 }
 
@@ -96,7 +107,7 @@ pub extern "C" fn tetra_slotgrant_read(
 ) -> u64
     ensures { λ r. ⌜ replied r (now (out .exit)) ≡ slotgrantReadReply (now (s .entry)) (window start pos end) (now (out .entry)) ⌝ }
 {
-    if out.len() < 4 {
+    if out.len() < READ_WORDS {
         return record::MALFORMED;
     }
     let done = basic_slotgrant::from_bitbuf(s, Cursor { start, pos, end });

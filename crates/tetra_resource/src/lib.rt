@@ -2,42 +2,82 @@
 // kind, first and second number; whether there is a power control, power control; whether there is a slot grant, its 3 words; whether there
 // is a channel allocation, its 9 words. What there is not is read as 0 and not looked at when written. A library apart from tetra_mac: there
 // the readers and writers of an element have a caller more, and the compiler would not put them here.
-use codec::piece;
-use codec::piece::Part;
-use mac_resource::added;
-use mac_resource::added::AddedHeader;
-use mac_resource::elements;
-use mac_resource::elements::ChannelAllocation;
-use mac_resource::elements::Elements;
-use mac_resource::elements::PowerControl;
-use mac_resource::elements::SlotGranting;
+use codec::encoded;
+use codec::encoded::Encoded;
+use codec::encoded::EncodedHeader;
+use codec::piece::Piece;
 use mac_resource::mac_resource as resource;
 use mac_resource::mac_resource::HeaderLen;
 use mac_resource::mac_resource::LenAndFill;
 use mac_resource::mac_resource::MacResource;
 use mac_resource::mac_resource::MacResourceAnswer;
-use tetra_core::address::TetraAddress;
-use tetra_core::bitbuffer;
+use optional_elements::allocation::OptionalAllocation;
+use optional_elements::elements;
+use optional_elements::elements::Elements;
+use optional_elements::grant_and_allocation::GrantAndAllocation;
+use optional_elements::power_control::OptionalPower;
+use optional_elements::slot_granting::OptionalGrant;
+use tetra_core::address::DownlinkAddress;
 use tetra_core::bitbuffer::Cursor;
-use tetra_core::bitbuffer::Moved;
-use tetra_core::bitbuffer::Outcome;
 use tetra_core::refusal;
 use tetra_mac::address;
-use tetra_mac::channel_allocation;
+use tetra_mac::allocation;
 use tetra_mac::record;
 use tetra_mac::slotgrant;
 ghost use mathlib.Core.List.{_∷_};
 ghost use mathlib.Core.Path.{_≡_};
-ghost use mathlib.Core.Bool.{true};
 ghost use Prim.Native.Nat.{_≤_};
 ghost use lib.ListN.{length};
 ghost use lib.Seq.{sets};
-ghost use Rattle.tetra_core.specs.declared.bitbuffer.Outcome.the-variants.{Refused};
-ghost use Rattle.mac_resource.specs.Elements.{noElements};
-ghost use Rattle.mac_resource.specs.MacResource.{nullOf, elementsOf, headerLen, WritesFront, WritesRest};
-ghost use Rattle.mac_resource.specs.Added.{Adds};
-ghost use Rattle.tetra_mac.specs.Reply.{word, replied, wrote, window, putFirst, givenReply};
-ghost use Rattle.tetra_resource.specs.MacResource.{fixedWords, addressWords, powerWords, frontWords, grantingWords, allocationWords, macResourceWords, powerValue, grantingKnown, grantingValue, allocationKnown, allocationValue, frontValue, addressOfWords, powerOfWords, assembled, macResourceKnown, macResourceValue, macResourceReadReply, macResourceWriteReply, headerLenReply, updateLenReply};
+ghost use Rattle.mac_resource.specs.Address.{isNull};
+ghost use Rattle.optional_elements.specs.Elements.{isBare};
+ghost use Rattle.mac_resource.specs.MacResource.{nullOf, elementsOf, addRefusal, macResourceRefusal, EncodesRest, EncodesResource};
+ghost use Rattle.tetra_mac.specs.Reply.{replied, wrote, window, putFirst, givenReply};
+ghost use Rattle.tetra_resource.specs.MacResource.{fixedWords, addressWords, powerWords, firstWords, grantingWords, allocationWords, macResourceWords, powerValue, grantingKnown, grantingValue, allocationKnown, allocationValue, firstFields, addressOfWords, powerOfWords, assembled, bareOf, macResourceKnown, macResourceValue, macResourceReadReply, macResourceWriteReply, headerLenReply, updateLenReply};
+
+// The places of the record: an element has its flag and, behind it, its own record.
+const FILL_BITS: usize = 0;
+
+const POS_OF_GRANT: usize = 1;
+
+const ENCRYPTION_MODE: usize = 2;
+
+const RANDOM_ACCESS: usize = 3;
+
+const LENGTH: usize = 4;
+
+const ADDRESS_TYPE: usize = 5;
+
+const SSI_KIND: usize = 6;
+
+const ADDRESS: usize = 7;
+
+const SECOND_NUMBER: usize = 8;
+
+const POWER: usize = 9;
+
+const POWER_LEVEL: usize = 10;
+
+const GRANTING: usize = 11;
+
+const ALLOCATION: usize = 15;
+
+const WORDS: usize = 25;
+
+// The same in what a read gives, which has the cursor before the record.
+const READ_ADDRESS: usize = ADDRESS_TYPE + 1;
+
+const READ_POWER: usize = POWER + 1;
+
+const READ_GRANTING: usize = GRANTING + 1;
+
+const READ_GRANTING_ELEMENT: usize = GRANTING + 2;
+
+const READ_ALLOCATION: usize = ALLOCATION + 1;
+
+const READ_ALLOCATION_ELEMENT: usize = ALLOCATION + 2;
+
+const READ_WORDS: usize = WORDS + 1;
 
 // The cursor's bit, and the words of the fields before the address.
 fn first_words(at: usize, h: MacResource) -> [u64; 6]
@@ -53,34 +93,39 @@ fn first_words(at: usize, h: MacResource) -> [u64; 6]
     ]
 }
 
-fn address_words(a: TetraAddress) -> [u64; 4]
+fn address_words(a: DownlinkAddress) -> [u64; 4]
     ensures { λ r. ⌜ r ≡ addressWords a ⌝ }
 {
     match a {
-        TetraAddress::NullPdu => [0, 0, 0, 0],
-        TetraAddress::Ssi(k, v) => [1, address::ssi_kind(k), v as u64, 0],
-        TetraAddress::EventLabel(l) => [2, 0, l as u64, 0],
-        TetraAddress::Ussi(v) => [3, 0, v as u64, 0],
-        TetraAddress::Smi(v) => [4, 0, v as u64, 0],
-        TetraAddress::SsiAndEventLabel(k, v, l) => [5, address::ssi_kind(k), v as u64, l as u64],
-        TetraAddress::SsiAndUsageMarker(k, v, m) => [6, address::ssi_kind(k), v as u64, m as u64],
-        TetraAddress::SmiAndEventLabel(v, l) => [7, 0, v as u64, l as u64],
+        DownlinkAddress::NullPdu => [0, 0, 0, 0],
+        DownlinkAddress::Ssi(k, v) => [1, address::ssi_kind(k), v as u64, 0],
+        DownlinkAddress::EventLabel(l) => [2, 0, l as u64, 0],
+        DownlinkAddress::Ussi(v) => [3, 0, v as u64, 0],
+        DownlinkAddress::Smi(v) => [4, 0, v as u64, 0],
+        DownlinkAddress::SsiAndEventLabel(k, v, l) => [5, address::ssi_kind(k), v as u64, l as u64],
+        DownlinkAddress::SsiAndUsageMarker(k, v, m) => [
+            6,
+            address::ssi_kind(k),
+            v as u64,
+            m as u64,
+        ],
+        DownlinkAddress::SmiAndEventLabel(v, l) => [7, 0, v as u64, l as u64],
     }
 }
 
-fn power_words(p: PowerControl) -> [u64; 2]
+fn power_words(p: OptionalPower) -> [u64; 2]
     ensures { λ r. ⌜ r ≡ powerWords p ⌝ }
 {
     match p {
-        PowerControl::Without => [0, 0],
-        PowerControl::Level(v) => [1, v as u64],
+        OptionalPower::Without => [0, 0],
+        OptionalPower::Level(v) => [1, v as u64],
     }
 }
 
 // Puts the cursor's bit and the words 0 to 10 into out, a group at a time, so that no array of them all is built and copied.
-fn put_front(out: &mut [u64], at: usize, h: MacResource)
+fn put_first(out: &mut [u64], at: usize, h: MacResource)
     requires { ⌜ 26 ≤ length (now out) ⌝ }
-    ensures { λ r. ⌜ now (out .exit) ≡ putFirst (now (out .entry)) (at ∷ frontWords h) ⌝ }
+    ensures { λ r. ⌜ now (out .exit) ≡ putFirst (now (out .entry)) (at ∷ firstWords h) ⌝ }
 {
     let a = h.addr;
     let p = h.power_control_element;
@@ -88,41 +133,41 @@ fn put_front(out: &mut [u64], at: usize, h: MacResource)
     let address = address_words(a);
     let power = power_words(p);
     record::put_words(out, 0, &first);
-    record::put_words(out, 6, &address);
-    record::put_words(out, 10, &power);
+    record::put_words(out, READ_ADDRESS, &address);
+    record::put_words(out, READ_POWER, &power);
 }
 
 // Each optional element has its words behind its flag, at a place of its own in out.
-fn put_granting(out: &mut [u64], g: SlotGranting)
+fn put_granting(out: &mut [u64], g: OptionalGrant)
     requires { ⌜ 26 ≤ length (now out) ⌝ }
     ensures { λ r. ⌜ now (out .exit) ≡ sets (now (out .entry)) 12 (grantingWords g) ⌝ }
 {
     match g {
-        SlotGranting::Without => {
+        OptionalGrant::Without => {
             let words = [0u64; 4];
-            record::put_words(out, 12, &words);
+            record::put_words(out, READ_GRANTING, &words);
         }
-        SlotGranting::Element(e) => {
+        OptionalGrant::Element(e) => {
             let words = slotgrant::slotgrant_words(e);
-            out[12] = 1;
-            record::put_words(out, 13, &words);
+            out[READ_GRANTING] = 1;
+            record::put_words(out, READ_GRANTING_ELEMENT, &words);
         }
     }
 }
 
-fn put_allocation(out: &mut [u64], a: ChannelAllocation)
+fn put_allocation(out: &mut [u64], a: OptionalAllocation)
     requires { ⌜ 26 ≤ length (now out) ⌝ }
     ensures { λ r. ⌜ now (out .exit) ≡ sets (now (out .entry)) 16 (allocationWords a) ⌝ }
 {
     match a {
-        ChannelAllocation::Without => {
+        OptionalAllocation::Without => {
             let words = [0u64; 10];
-            record::put_words(out, 16, &words);
+            record::put_words(out, READ_ALLOCATION, &words);
         }
-        ChannelAllocation::Element(e) => {
-            let words = channel_allocation::channel_allocation_words(e);
-            out[16] = 1;
-            record::put_words(out, 17, &words);
+        OptionalAllocation::Element(e) => {
+            let words = allocation::channel_allocation_words(e);
+            out[READ_ALLOCATION] = 1;
+            record::put_words(out, READ_ALLOCATION_ELEMENT, &words);
         }
     }
 }
@@ -134,7 +179,7 @@ pub fn give_mac_resource(out: &mut [u64], at: usize, h: MacResource) -> u64
 {
     let g = h.slot_granting_element;
     let a = h.chan_alloc_element;
-    put_front(out, at, h);
+    put_first(out, at, h);
     put_granting(out, g);
     put_allocation(out, a);
     0
@@ -148,7 +193,7 @@ fn give_null(out: &mut [u64], at: usize, length_ind: u8) -> u64
     let first = [at as u64, 0, 0, 0, 0, length_ind as u64];
     let rest = [0u64; 20];
     record::put_words(out, 0, &first);
-    record::put_words(out, 6, &rest);
+    record::put_words(out, READ_ADDRESS, &rest);
     0
 }
 
@@ -170,56 +215,56 @@ fn allocation_known(words: &[u64]) -> bool
     if words[0] == 0 {
         return true;
     }
-    channel_allocation::channel_allocation_known(&words[1..10])
+    allocation::channel_allocation_known(&words[1..10])
 }
 
 // Whether words are long enough for a MAC-RESOURCE and have no unknown code.
 pub fn mac_resource_known(words: &[u64]) -> bool
     ensures { λ r. ⌜ r ≡ macResourceKnown (now (words .entry)) ⌝ }
 {
-    if words.len() < 25 {
+    if words.len() < WORDS {
         return false;
     }
-    if !address::address_known(words[5], words[6]) {
+    if !address::address_known(words[ADDRESS_TYPE], words[SSI_KIND]) {
         return false;
     }
-    if !granting_known(&words[11..15]) {
+    if !granting_known(&words[GRANTING..ALLOCATION]) {
         return false;
     }
-    allocation_known(&words[15..25])
+    allocation_known(&words[ALLOCATION..WORDS])
 }
 
-fn power_value(present: u64, v: u8) -> PowerControl
+fn power_value(present: u64, v: u8) -> OptionalPower
     ensures { λ r. ⌜ r ≡ powerValue present v ⌝ }
 {
     if present == 0 {
-        return PowerControl::Without;
+        return OptionalPower::Without;
     }
-    PowerControl::Level(v)
+    OptionalPower::Level(v)
 }
 
-fn granting_value(words: &[u64]) -> SlotGranting
+fn granting_value(words: &[u64]) -> OptionalGrant
     requires { ⌜ 4 ≤ length (now words) ⌝ }
     ensures { λ r. ⌜ r ≡ grantingValue (now (words .entry)) ⌝ }
 {
     if words[0] == 0 {
-        return SlotGranting::Without;
+        return OptionalGrant::Without;
     }
-    SlotGranting::Element(slotgrant::slotgrant_value(&words[1..4]))
+    OptionalGrant::Element(slotgrant::slotgrant_value(&words[1..4]))
 }
 
-fn allocation_value(words: &[u64]) -> ChannelAllocation
+fn allocation_value(words: &[u64]) -> OptionalAllocation
     requires { ⌜ 10 ≤ length (now words) ⌝ }
     ensures { λ r. ⌜ r ≡ allocationValue (now (words .entry)) ⌝ }
 {
     if words[0] == 0 {
-        return ChannelAllocation::Without;
+        return OptionalAllocation::Without;
     }
-    ChannelAllocation::Element(channel_allocation::channel_allocation_value(&words[1..10]))
+    OptionalAllocation::Element(allocation::channel_allocation_value(&words[1..10]))
 }
 
 // The fields before the address.
-struct Front {
+struct FirstFields {
     fill_bits: bool,
     pos_of_grant: u8,
     encryption_mode: u8,
@@ -227,39 +272,44 @@ struct Front {
     length_ind: u8,
 }
 
-fn front_value(words: &[u64]) -> Front
+fn first_fields(words: &[u64]) -> FirstFields
     requires { ⌜ 25 ≤ length (now words) ⌝ }
-    ensures { λ r. ⌜ r ≡ frontValue (now (words .entry)) ⌝ }
+    ensures { λ r. ⌜ r ≡ firstFields (now (words .entry)) ⌝ }
 {
-    Front {
-        fill_bits: words[0] != 0,
-        pos_of_grant: record::number8(words[1]),
-        encryption_mode: record::number8(words[2]),
-        random_access_flag: words[3] != 0,
-        length_ind: record::number8(words[4]),
+    FirstFields {
+        fill_bits: words[FILL_BITS] != 0,
+        pos_of_grant: record::number8(words[POS_OF_GRANT]),
+        encryption_mode: record::number8(words[ENCRYPTION_MODE]),
+        random_access_flag: words[RANDOM_ACCESS] != 0,
+        length_ind: record::number8(words[LENGTH]),
     }
 }
 
-fn address_of(words: &[u64]) -> TetraAddress
+fn address_of(words: &[u64]) -> DownlinkAddress
     requires { ⌜ 25 ≤ length (now words) ⌝ }
     ensures { λ r. ⌜ r ≡ addressOfWords (now (words .entry)) ⌝ }
 {
-    address::address_value(words[5], words[6], words[7], words[8])
+    address::address_value(
+        words[ADDRESS_TYPE],
+        words[SSI_KIND],
+        words[ADDRESS],
+        words[SECOND_NUMBER],
+    )
 }
 
-fn power_of(words: &[u64]) -> PowerControl
+fn power_of(words: &[u64]) -> OptionalPower
     requires { ⌜ 25 ≤ length (now words) ⌝ }
     ensures { λ r. ⌜ r ≡ powerOfWords (now (words .entry)) ⌝ }
 {
-    power_value(words[9], record::number8(words[10]))
+    power_value(words[POWER], record::number8(words[POWER_LEVEL]))
 }
 
 fn assembled(
-    f: Front,
-    addr: TetraAddress,
-    power_control_element: PowerControl,
-    slot_granting_element: SlotGranting,
-    chan_alloc_element: ChannelAllocation,
+    f: FirstFields,
+    addr: DownlinkAddress,
+    power_control_element: OptionalPower,
+    slot_granting_element: OptionalGrant,
+    chan_alloc_element: OptionalAllocation,
 ) -> MacResource
     ensures { λ r. ⌜ r ≡ assembled f addr «power_control_element» «slot_granting_element» «chan_alloc_element» ⌝ }
 {
@@ -282,109 +332,97 @@ pub fn mac_resource_value(words: &[u64]) -> MacResource
     ensures { λ r. ⌜ r ≡ macResourceValue (now (words .entry)) ⌝ }
 {
     assembled(
-        front_value(words),
+        first_fields(words),
         address_of(words),
         power_of(words),
-        granting_value(&words[11..15]),
-        allocation_value(&words[15..25]),
+        granting_value(&words[GRANTING..ALLOCATION]),
+        allocation_value(&words[ALLOCATION..WORDS]),
     )
 }
 
-// To write, a header is taken from the words in parts, and a null header or one without elements by itself: so what is made of a word is
-// spent before the next words are read, and no header is put together.
+// To write, a header is encoded from its words: its front as that of a header without elements, so that an element is put together only
+// where there is one.
 
-// The header of an address that has no elements.
-fn bare(f: Front, addr: TetraAddress) -> MacResource
-    ensures { λ r. ⌜ r ≡ assembled f addr PowerControl.Without SlotGranting.Without ChannelAllocation.Without ⌝ }
+// The words' header without its elements.
+fn bare_of(words: &[u64]) -> MacResource
+    requires { ⌜ 25 ≤ length (now words) ⌝ }
+    ensures { λ r. ⌜ r ≡ bareOf (now (words .entry)) ⌝ }
 {
     assembled(
-        f,
-        addr,
-        PowerControl::Without,
-        SlotGranting::Without,
-        ChannelAllocation::Without,
+        first_fields(words),
+        address_of(words),
+        OptionalPower::Without,
+        OptionalGrant::Without,
+        OptionalAllocation::Without,
     )
 }
 
-// All of the words' header, which is null.
-fn null_of(words: &[u64]) -> Part
-    requires { ⌜ (25 ≤ length (now words)) × (word (now words) 5 ≡ 0) ⌝ }
-    ensures { λ r. ⌜ WritesFront (macResourceValue (now (words .entry))) r ⌝ }
-{
-    resource::null_part(bare(front_value(words), TetraAddress::NullPdu))
-}
-
-// What stands before the elements of the words' header, which is not null.
-fn front_of(words: &[u64]) -> Part
-    requires { ⌜ (25 ≤ length (now words)) × (word (now words) 5 ≡ 0 → ⊥) ⌝ }
-    ensures { λ r. ⌜ WritesFront (macResourceValue (now (words .entry))) r ⌝ }
-{
-    resource::front_part(bare(front_value(words), address_of(words)))
-}
-
-fn has_no_element(words: &[u64]) -> bool
+// Whether the words' header has no element. Most have none: asked of the words, it saves them the elements.
+fn no_element(words: &[u64]) -> bool
     requires { ⌜ 25 ≤ length (now words) ⌝ }
-    ensures { λ r. ⌜ (r ≡ true → elementsOf (macResourceValue (now (words .entry))) ≡ noElements) ⌝ }
+    ensures { λ r. ⌜ r ≡ isBare (elementsOf (macResourceValue (now (words .entry)))) ⌝ }
 {
-    if words[9] != 0 {
+    if words[POWER] != 0 {
         return false;
     }
-    if words[11] != 0 {
+    if words[GRANTING] != 0 {
         return false;
     }
-    words[15] == 0
+    words[ALLOCATION] == 0
 }
 
-// The elements of the words' header.
-fn rest_of(words: &[u64]) -> Part
-    requires { ⌜ 25 ≤ length (now words) ⌝ }
-    ensures { λ r. ⌜ WritesRest (macResourceValue (now (words .entry))) r ⌝ }
+// What stands behind the address of the words' header, which is null or is not.
+fn rest_of(words: &[u64], null: bool) -> Encoded
+    requires { ⌜ (25 ≤ length (now words)) × (null ≡ isNull (macResourceValue (now words) .addr)) ⌝ }
+    ensures { λ r. ⌜ EncodesRest (macResourceValue (now (words .entry))) r ⌝ }
 {
-    if has_no_element(words) {
-        return elements::bare_part();
+    if null {
+        return Encoded {
+            number: refusal::NONE,
+            piece: Piece { value: 0, bits: 0 },
+        };
+    }
+    if no_element(words) {
+        return Encoded {
+            number: refusal::NONE,
+            piece: Piece {
+                value: 0,
+                bits: elements::FLAGS,
+            },
+        };
     }
     let power_control_element = power_of(words);
-    let slot_granting_element = granting_value(&words[11..15]);
-    let chan_alloc_element = allocation_value(&words[15..25]);
-    elements::elements_part(Elements {
+    let slot_granting_element = granting_value(&words[GRANTING..ALLOCATION]);
+    let chan_alloc_element = allocation_value(&words[ALLOCATION..WORDS]);
+    elements::elements_encoded(Elements {
         power_control_element,
-        slot_granting_element,
-        chan_alloc_element,
+        grant_and_allocation: GrantAndAllocation {
+            slot_granting_element,
+            chan_alloc_element,
+        },
     })
 }
 
-// The words' header, which a number refuses, on its way into a block.
-fn refused_of(words: &[u64], number: u8) -> AddedHeader
+// The words' header on its way out, alone.
+fn encoded_alone(words: &[u64]) -> EncodedHeader
     requires { ⌜ 25 ≤ length (now words) ⌝ }
-    ensures { λ r. ⌜ (r .number ≡ number) × (r .bits ≡ headerLen (macResourceValue (now (words .entry)))) ⌝ }
+    ensures { λ r. ⌜ EncodesResource (macResourceRefusal (macResourceValue (now (words .entry)))) (macResourceValue (now (words .entry))) r ⌝ }
 {
-    added::refused(number, resource::header_len(mac_resource_value(words)))
+    let h = bare_of(words);
+    let front = resource::front_alone(h);
+    let before = resource::alone_refusal(h);
+    resource::whole(before, front, rest_of(words, resource::is_null_pdu(h)))
 }
 
-// The words' header on its way into a block.
-pub fn added_of(words: &[u64]) -> AddedHeader
+// The same into a block.
+pub fn encoded_to_add(words: &[u64]) -> EncodedHeader
     requires { ⌜ 25 ≤ length (now words) ⌝ }
-    ensures { λ r. ⌜ Adds (macResourceValue (now (words .entry))) r ⌝ }
+    ensures { λ r. ⌜ EncodesResource (addRefusal (macResourceValue (now (words .entry)))) (macResourceValue (now (words .entry))) r ⌝ }
 {
-    if words[5] == 0 {
-        return refused_of(words, refusal::NULL_PDU);
-    }
-    let front = added::added_front(bare(front_value(words), address_of(words)));
-    let rest = rest_of(words);
-    let number = piece::first_of(front.number, rest.number);
-    if number != 0 {
-        return refused_of(words, number);
-    }
-    added::whole(front, rest.piece)
-}
-
-fn refused(c: Cursor, number: u8) -> Moved
-    ensures { λ r. ⌜ r ≡ record { cursor = c; answer = Refused number } ⌝ }
-{
-    Moved {
-        cursor: c,
-        answer: Outcome::Refused(number),
-    }
+    let h = bare_of(words);
+    let front = resource::front_to_add(h);
+    let before = resource::null_added(h);
+    resource::whole(before, front, rest_of(words, resource::is_null_pdu(h)))
 }
 
 #[no_mangle]
@@ -397,7 +435,7 @@ pub extern "C" fn tetra_mac_resource_read(
 ) -> u64
     ensures { λ r. ⌜ replied r (now (out .exit)) ≡ macResourceReadReply (now (s .entry)) (window start pos end) (now (out .entry)) ⌝ }
 {
-    if out.len() < 26 {
+    if out.len() < READ_WORDS {
         return record::MALFORMED;
     }
     let done = resource::from_bitbuf(s, Cursor { start, pos, end });
@@ -431,26 +469,15 @@ pub extern "C" fn tetra_mac_resource_write(
     if !mac_resource_known(words) {
         return record::MALFORMED;
     }
-    let c = Cursor { start, pos, end };
-    // As soon as it is known: a header that is refused is not asked for its elements.
-    if !bitbuffer::good_window(s.len(), c) {
-        return record::moved(out, refused(c, refusal::BAD_WINDOW));
-    }
-    if words[5] == 0 {
-        let done = piece::write_part(s, c, null_of(words));
-        return record::moved(out, done);
-    }
-    let front = front_of(words);
-    if front.number != 0 {
-        return record::moved(out, refused(c, front.number));
-    }
-    let done = piece::write_parts(s, c, front, rest_of(words));
+    let f = first_fields(words);
+    let e = encoded_alone(words);
+    let done = encoded::write_header(s, Cursor { start, pos, end }, e, f.length_ind, f.fill_bits);
     record::moved(out, done)
 }
 
 // The bits that a MAC-RESOURCE is written as.
 #[no_mangle]
-pub extern "C" fn tetra_mac_resource_header_len(words: &[u64], out: &mut [u64]) -> u64
+pub extern "C" fn tetra_mac_resource_compute_header_len(words: &[u64], out: &mut [u64]) -> u64
     ensures { λ r. ⌜ replied r (now (out .exit)) ≡ headerLenReply (now (words .entry)) (now (out .entry)) ⌝ }
 {
     if out.len() < 1 {
@@ -471,7 +498,7 @@ pub extern "C" fn tetra_mac_resource_header_len(words: &[u64], out: &mut [u64]) 
 
 // The length of a MAC-RESOURCE with sdu_len bits of content, its fill flag and its fill bits.
 #[no_mangle]
-pub extern "C" fn tetra_mac_resource_update_len(
+pub extern "C" fn tetra_mac_resource_len_and_fill(
     words: &[u64],
     sdu_len: usize,
     out: &mut [u64],

@@ -132,7 +132,7 @@ fn words(entry: Option<BlockEntry>) -> sys::StepOut {
         Some(BlockEntry::Null(bit)) => [w[0], w[1]] = [2, bit as u64],
         Some(BlockEntry::Refused(e)) => {
             [w[0], w[1], w[2], w[3]] = [3, e.bit as u64, e.end.is_some() as u64, e.end.unwrap_or(0) as u64];
-            [w[6], w[7]] = [e.refusal.number.into(), e.refusal.bit as u64];
+            [w[6], w[7]] = [e.refusal.number.into(), e.refusal.offset as u64];
         }
         Some(BlockEntry::Resource(e)) => {
             [w[0], w[1], w[2], w[3]] = [1, e.bit as u64, 1, e.end as u64];

@@ -148,29 +148,29 @@ fn cursor_kept(c: &Case, r: Refusal) -> bool {
 
 /// Whether a refusal's number, and of a read its bit, fits what the original says where it refuses too, and the bit where its cursor stopped.
 fn same_reason(c: &Case, theirs: &Theirs, cursor: usize, r: Refusal) -> bool {
-    let at = c.window.pos.saturating_add(r.bit);
+    let at = c.window.pos.saturating_add(r.offset);
     if let Theirs::Rule(number, bit) = *theirs {
-        return r == Refusal { number, bit };
+        return r == Refusal { number, offset: bit };
     }
     if r.number == Refusal::BAD_WINDOW {
-        return r.bit == 0 && (matches!(theirs, Theirs::NoWindow) || c.window.end > 65536);
+        return r.offset == 0 && (matches!(theirs, Theirs::NoWindow) || c.window.end > 65536);
     }
     match (theirs, c.call) {
         (Theirs::Ended, Call::Read(_) | Call::Step) => r.number == Refusal::READ_PAST_END && at == cursor,
-        (Theirs::Ended, _) => r == Refusal { number: Refusal::READ_PAST_END, bit: 0 },
-        (Theirs::Invalid, _) => r == Refusal { number: Refusal::USAGE_MARKER, bit: 8 },
-        (Theirs::Panics(_), Call::PeekBits) => r == Refusal { number: Refusal::READ_PAST_END, bit: 0 },
+        (Theirs::Ended, _) => r == Refusal { number: Refusal::READ_PAST_END, offset: 0 },
+        (Theirs::Invalid, _) => r == Refusal { number: Refusal::USAGE_MARKER, offset: 8 },
+        (Theirs::Panics(_), Call::PeekBits) => r == Refusal { number: Refusal::READ_PAST_END, offset: 0 },
         (Theirs::Panics(why), Call::Read(_) | Call::Step) => match r.number {
-            Refusal::WRONG_PDU_TYPE => r.bit == 0 && cursor == at + if c.call == Call::Read(Kind::Access) { 1 } else { 2 },
+            Refusal::WRONG_PDU_TYPE => r.offset == 0 && cursor == at + if c.call == Call::Read(Kind::Access) { 1 } else { 2 },
             Refusal::EXTENDED_CARRIER => why.contains("Extended") && cursor == at + 1,
             Refusal::AUGMENTED => why.contains("Augmented") && (cursor == at + 19 || cursor == at + 21),
             _ => false,
         },
         (Theirs::Panics(why), Call::ChannelLen | Call::HeaderLen | Call::UpdateLen) => {
-            r == Refusal { number: Refusal::AUGMENTED, bit: 0 } && why.contains("Augmented")
+            r == Refusal { number: Refusal::AUGMENTED, offset: 0 } && why.contains("Augmented")
         }
-        (Theirs::Panics(why), Call::Add) if block::added_reason(why, r.number) => r.bit == 0,
-        (Theirs::Panics(why), _) => r.bit == 0 && written_reason(why, r.number),
+        (Theirs::Panics(why), Call::Add) if block::added_reason(why, r.number) => r.offset == 0,
+        (Theirs::Panics(why), _) => r.offset == 0 && written_reason(why, r.number),
         _ => false,
     }
 }
@@ -200,7 +200,7 @@ fn listed(c: &Case, answer: &[u64], cursor: usize, r: Refusal) -> Option<u8> {
     match c.call {
         _ if r.number == Refusal::BAD_WINDOW => (w.end > 65536).then_some(1),
         Call::PeekBits => (r.number == Refusal::READ_PAST_END && w.pos as i128 + (c.numbers[0] as i64 as i128) < w.start as i128).then_some(2),
-        Call::Read(k) => told(listed_read(k, cursor - w.pos, answer)).filter(|_| cursor == w.pos + r.bit && cursor == w.end),
+        Call::Read(k) => told(listed_read(k, cursor - w.pos, answer)).filter(|_| cursor == w.pos + r.offset && cursor == w.end),
         Call::Write(k) => told(listed_write(k, &c.numbers)),
         Call::Add => told(listed_write(Kind::Resource, &c.numbers)),
         Call::UpdateLen => {

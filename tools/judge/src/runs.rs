@@ -6,7 +6,7 @@ use crate::cases::{self, Rng};
 use crate::model;
 use crate::ours::Refusal;
 use tetra_mac::block::{self, BlockEntry, LengthIndication, ResourcePdu};
-use tetra_mac::{MAC_RESOURCE_LENGTH_2ND_SLOT_STOLEN, MAC_RESOURCE_LENGTH_FRAG_START, MacResource, Record, SsiType, TetraAddress};
+use tetra_mac::{MAC_RESOURCE_LENGTH_2ND_SLOT_STOLEN, MAC_RESOURCE_LENGTH_FRAG_START, MacResource, Record, SsiType, DownlinkAddress};
 
 #[derive(Clone, Debug)]
 pub struct Add {
@@ -40,9 +40,9 @@ pub struct Done {
 fn normal(header: &MacResource, length_ind: u8, fill_bits: bool) -> MacResource {
     let ssi = SsiType::Ssi;
     let addr = match header.addr {
-        TetraAddress::Ssi(_, n) => TetraAddress::Ssi(ssi, n),
-        TetraAddress::SsiAndEventLabel(_, n, label) => TetraAddress::SsiAndEventLabel(ssi, n, label),
-        TetraAddress::SsiAndUsageMarker(_, n, marker) => TetraAddress::SsiAndUsageMarker(ssi, n, marker),
+        DownlinkAddress::Ssi(_, n) => DownlinkAddress::Ssi(ssi, n),
+        DownlinkAddress::SsiAndEventLabel(_, n, label) => DownlinkAddress::SsiAndEventLabel(ssi, n, label),
+        DownlinkAddress::SsiAndUsageMarker(_, n, marker) => DownlinkAddress::SsiAndUsageMarker(ssi, n, marker),
         other => other,
     };
     let mut chan_alloc_element = header.chan_alloc_element;

@@ -19,15 +19,15 @@ use Rattle.bits.specs.Laws.Writes.{bytes-putBits, bitsOf-putBits}
 use Rattle.tetra_core.specs.Laws.Windows.{Good, good-facts}
 use Rattle.tetra_core.specs.declared.bitbuffer.Cursor.{Cursor}
 use Rattle.tetra_core.specs.declared.bitbuffer.Outcome.{Outcome}
-use Rattle.codec.specs.Reader.{Out, got, refused, run}
-use Rattle.codec.specs.Feed.{feeds, short}
+use Rattle.codec.specs.Reader.{Out, got, refused, parse}
+use Rattle.codec.specs.Words.{parse-word, short}
 use Rattle.codec.specs.Header.{within, ends}
 use Rattle.codec.specs.Row.{rowBits, RowFits, length-row, row-is}
 use Rattle.codec.specs.Write.{refusalAt, free, free-test, write-done}
-use Rattle.codec.specs.Back.{give, gives, written-back}
+use Rattle.codec.specs.RoundTrip.{parseRow, parse-row, written-back}
 use Rattle.access_assign.specs.AccessField.{accessFieldOf}
 use Rattle.access_assign.specs.Usage.{dlUsageOf, dlRefusal, ulMarks, ulUsageOf, ulRefusal}
-use Rattle.access_assign.specs.AccessAssign.{accessAssignOf, readAccessAssign, accessAssignAt, headerNumber, fieldOne, fieldTwo, accessAssignRefusal, accessAssignRow, accessAssignWrite, accessAssignWritten}
+use Rattle.access_assign.specs.AccessAssign.{assignSize, accessAssignOf, readAccessAssign, accessAssignAt, headerNumber, fieldOne, fieldTwo, accessAssignRefusal, accessAssignRow, accessAssignWrite, accessAssignWritten}
 use Rattle.access_assign.specs.Laws.AccessField.{access-field-back, access-field-again}
 use Rattle.access_assign.specs.Laws.Usage.{dl-back, ul-back, dl-again, ul-again}
 use Rattle.access_assign.specs.declared.access_assign.AccessAssign.{AccessAssign}
@@ -35,7 +35,7 @@ use Rattle.access_assign.specs.declared.access_assign.AccessAssign.the-v
 use Rattle.access_assign.specs.declared.access_assign.AccessAssignAnswer.{AccessAssignAnswer}
 use Rattle.access_assign.specs.declared.access_assign.AccessAssignRead.{AccessAssignRead}
 
-pub access-assign-length : (a : AccessAssign) → length (rowBits (accessAssignRow a)) ≡ 14
+pub access-assign-length : (a : AccessAssign) → length (rowBits (accessAssignRow a)) ≡ assignSize
 unfolding accessAssignRow
 access-assign-length a = length-row (accessAssignRow a)
 
@@ -46,7 +46,7 @@ record FieldsBack (a : AccessAssign) : Type 0 where
   one : fieldOne a < 64
   two : fieldTwo a < 64
   back : (second : ℕ) (rest : List Bool) (o : ℕ)
-      → give (accessAssignOf (headerNumber a) (fieldOne a) (fieldTwo a) second) [] 14 rest o ≡ got a rest (o + 14)
+      → parseRow (accessAssignOf (headerNumber a) (fieldOne a) (fieldTwo a) second) [] 14 rest o ≡ got a rest (o + assignSize)
 
 fields-back : (a : AccessAssign) → accessAssignRefusal a ≡ 0 → FieldsBack a
 unfolding accessAssignOf
@@ -80,13 +80,13 @@ module _ (a : AccessAssign) (e : accessAssignRefusal a ≡ 0) where
   access-assign-fits = (header-small a, (fields-back a e .one, (fields-back a e .two, tt)))
 
   -- whatever follows its bits
-  pub access-assign-back : (rest : List Bool) (o : ℕ) → run readAccessAssign (rowBits (accessAssignRow a) ++ rest) o ≡ got a rest (o + 14)
+  pub access-assign-back : (rest : List Bool) (o : ℕ) → parse readAccessAssign (rowBits (accessAssignRow a) ++ rest) o ≡ got a rest (o + assignSize)
   unfolding readAccessAssign accessAssignRow
-  access-assign-back rest o = rw (gives readAccessAssign (accessAssignRow a) 0 rest o access-assign-fits) (fields-back a e .back _ _ _)
+  access-assign-back rest o = rw (parse-row readAccessAssign (accessAssignRow a) 0 rest o access-assign-fits) (fields-back a e .back _ _ _)
 
 -- in bytes: what to_bitbuf wrote, from_bitbuf reads at the same cursor
-pub access-assign-written-back : (s : List ℕ) (c : Cursor) (a : AccessAssign) → refusalAt (length s) c (accessAssignRefusal a) 14 ≡ 0
-    → accessAssignAt (accessAssignWritten s c a) c ≡ record { cursor = moved c 14; answer = AccessAssignAnswer.Read a }
+pub access-assign-written-back : (s : List ℕ) (c : Cursor) (a : AccessAssign) → refusalAt (length s) c (accessAssignRefusal a) assignSize ≡ 0
+    → accessAssignAt (accessAssignWritten s c a) c ≡ record { cursor = moved c assignSize; answer = AccessAssignAnswer.Read a }
 unfolding accessAssignAt
 access-assign-written-back s c a e =
     written-back readAccessAssign _ _ _ s c (accessAssignRefusal a) _ (access-assign-length a) (λ rest. access-assign-back a (free _ _ _ _ e .value) rest 0) e
@@ -101,7 +101,7 @@ record Again (a : AccessAssign) (h x y : ℕ) : Type 0 where
   two : fieldTwo a ≡ y
 
 fields-again : (h one two second : ℕ) (rest : List Bool) (o : ℕ) {a : AccessAssign} {r : List Bool} {n : ℕ} → h < 4 → one < 64 → two < 64
-    → run (accessAssignOf h one two second) rest o ≡ got a r n → Again a h one two × (n ≡ o)
+    → parse (accessAssignOf h one two second) rest o ≡ got a r n → Again a h one two × (n ≡ o)
 unfolding accessAssignOf first
 fields-again zero one two second rest o {a} lh l1 l2 e =
     let s : a ≡ DownlinkCommonControlUplinkCommonOnly (accessFieldOf one) (accessFieldOf two) = cc in
@@ -127,12 +127,12 @@ fields-again (suc (suc (suc zero))) one two second rest o {a} {r} {n} lh l1 l2 e
 fields-again (suc (suc (suc (suc h)))) one two second rest o lh l1 l2 e = absurd (omega arith)
 
 -- whatever bits are read, wherever they stand
-pub access-assign-again : (bs : List Bool) (o : ℕ) {a : AccessAssign} {r : List Bool} {n : ℕ} → run readAccessAssign bs o ≡ got a r n
-    → (accessAssignRefusal a ≡ 0) × (n ≡ o + 14) × (rowBits (accessAssignRow a) ≡ take 14 bs)
+pub access-assign-again : (bs : List Bool) (o : ℕ) {a : AccessAssign} {r : List Bool} {n : ℕ} → parse readAccessAssign bs o ≡ got a r n
+    → (accessAssignRefusal a ≡ 0) × (n ≡ o + assignSize) × (rowBits (accessAssignRow a) ≡ take assignSize bs)
 unfolding readAccessAssign accessAssignRow
 access-assign-again bs o {a} {r} {n} e = go (leb 14 (length bs)) refl
   where
-    go : (b : Bool) → leb 14 (length bs) ≡ b → (accessAssignRefusal a ≡ 0) × (n ≡ o + 14) × (rowBits (accessAssignRow a) ≡ take 14 bs)
+    go : (b : Bool) → leb 14 (length bs) ≡ b → (accessAssignRefusal a ≡ 0) × (n ≡ o + assignSize) × (rowBits (accessAssignRow a) ≡ take assignSize bs)
     go false t =
         let h = leb-false 14 (length bs) t in
         let s = short readAccessAssign (2 ∷ 6 ∷ 6 ∷ []) bs o (λ _ _ _ _. tt) h in
@@ -143,7 +143,7 @@ access-assign-again bs o {a} {r} {n} e = go (leb 14 (length bs)) refl
         let small : x < 16384 = rw l at (val-lt (take 14 bs)) in
         let w : bitsOfNat 14 x ≡ take 14 bs = rw l at (bitsOfNat-val (take 14 bs)) in
         let whole : bitsOfNat 14 x ++ drop 14 bs ≡ bs = rw w (take-append-drop 14 bs) in
-        let f = rw (sym whole, feeds readAccessAssign x 14 0 (drop 14 bs) o) at e in
+        let f = rw (sym whole, parse-word readAccessAssign x 14 0 (drop 14 bs) o) at e in
         let g = fields-again (x / 4096 % 4) (x / 64 % 64) (x % 64) (o + 8) (drop 14 bs) (o + 14) (omega arith) (omega arith) (omega arith) f in
         let i = g .0 in
         let sum : x / 4096 % 4 * 4096 + (x / 64 % 64 * 64 + x % 64) ≡ x = omega arith in
@@ -169,9 +169,9 @@ pub access-assign-written-again : (s : List ℕ) (c d : Cursor) (a : AccessAssig
     → accessAssignAt s c ≡ record { cursor = d; answer = AccessAssignAnswer.Read a }
     → (accessAssignWrite s c a ≡ record { cursor = d; answer = Outcome.Done }) × (accessAssignWritten s c a ≡ s)
 unfolding accessAssignAt
-access-assign-written-again s c d a hb e = go (goodWindow (length s) c) refl (run readAccessAssign (within s c) 0) refl
+access-assign-written-again s c d a hb e = go (goodWindow (length s) c) refl (parse readAccessAssign (within s c) 0) refl
   where
-    go : (b : Bool) → goodWindow (length s) c ≡ b → (q : Out AccessAssign) → run readAccessAssign (within s c) 0 ≡ q
+    go : (b : Bool) → goodWindow (length s) c ≡ b → (q : Out AccessAssign) → parse readAccessAssign (within s c) 0 ≡ q
         → (accessAssignWrite s c a ≡ record { cursor = d; answer = Outcome.Done }) × (accessAssignWritten s c a ≡ s)
     go false t q x = absurd (let f = ap (λ (r : AccessAssignRead). r .answer) (rw t at e) in let z : _≡_ {A = ℕ} 0 1 = cc in omega arith)
     go true t (refused j at) x = absurd (let f = ap (λ (r : AccessAssignRead). r .answer) (rw (t, x) at e) in let z : _≡_ {A = ℕ} 0 1 = cc in omega arith)

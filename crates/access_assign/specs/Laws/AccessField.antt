@@ -5,7 +5,7 @@ use native.Mathlib.Omega.{arith}
 use native.Mathlib.Nat.{mod-eq-of-lt}
 use lib.Dec.{lit<}
 use lib.Pow.{high, low}
-use Rattle.codec.specs.Below.{numbers}
+use Rattle.codec.specs.AllBelow.{numbers}
 use Rattle.access_assign.specs.AccessField.{accessCodeNumber, accessCodeOf, baseFrameLengthNumber, baseFrameLengthOf, accessFieldNumber, accessFieldOf}
 use Rattle.access_assign.specs.declared.enums.access_code.AccessCode.{AccessCode}
 use Rattle.access_assign.specs.declared.enums.access_code.AccessCode.the-variants.{AccessCodeA, AccessCodeB, AccessCodeC, AccessCodeD}

@@ -8,7 +8,7 @@ use lib.Dec.{eqb, leb, lit<}
 use borrow.Author.Tests.{leb-true, le-leb, eqb-true, ne-eqb}
 use Rattle.tetra_core.specs.Refusal.{unless, first, first-none, passed}
 use Rattle.tetra_core.specs.Laws.Windows.{and-both}
-use Rattle.codec.specs.Below.{below}
+use Rattle.codec.specs.AllBelow.{below}
 use Rattle.access_assign.specs.Usage.{trafficRefusal, dlMarker, dlNames, dlUsageOf, dlRefusal, ulMarker, markerNumber, ulMarks, ulUsageOf, ulUsage, ulRefusal}
 use Rattle.access_assign.specs.declared.enums.access_assign_dl_usage.AccessAssignDlUsage.{AccessAssignDlUsage}
 use Rattle.access_assign.specs.declared.enums.access_assign_dl_usage.AccessAssignDlUsage.the-variants as Dl'

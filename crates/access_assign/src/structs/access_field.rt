@@ -7,6 +7,9 @@ ghost use mathlib.Core.Path.{_≡_};
 ghost use Prim.Native.Nat.{_<_};
 ghost use Rattle.access_assign.specs.AccessField.{accessFieldNumber, accessFieldOf};
 
+// What the access code is worth in an access field; the base frame-length is worth 1.
+const ACCESS_CODE: u64 = 1 << 4;
+
 pub struct AccessField {
     pub access_code: AccessCode,
     pub base_frame_len: BaseFrameLength,
@@ -17,7 +20,7 @@ pub fn from_raw(v: u64) -> AccessField
     ensures { λ r. ⌜ r ≡ accessFieldOf v ⌝ }
 {
     AccessField {
-        access_code: access_code::from_raw((v >> 4) % 4),
+        access_code: access_code::from_raw(v / ACCESS_CODE % 4),
         base_frame_len: base_frame_length::from_raw(v % 16),
     }
 }
@@ -28,5 +31,5 @@ pub fn into_raw(f: AccessField) -> u64
 {
     let code = f.access_code;
     let len = f.base_frame_len;
-    access_code::into_raw(code) * 16 + base_frame_length::into_raw(len)
+    access_code::into_raw(code) * ACCESS_CODE + base_frame_length::into_raw(len)
 }

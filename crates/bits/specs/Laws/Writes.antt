@@ -10,7 +10,7 @@ use lib.Seq.{length-take-le, take-take, drop-at, take-add, drop-drop}
 use Rattle.bits.specs.Bits.{val, bitsOfNat, bitsOf, pack, splice, bitsAt, getBits, putBits, Bytes}
 use Rattle.bits.specs.Laws.Values.{length-bitsOfNat, val-bitsOfNat}
 use Rattle.bits.specs.Laws.Bytes.{length-bitsOf, length-pack, bitsOf-pack, pack-bitsOf, bytes-pack}
-use Rattle.bits.specs.Laws.Splice.{length-splice, splice-nil, splice-append, splice-at, splice-before, splice-after}
+use Rattle.bits.specs.Laws.Splice.{length-splice, splice-nil, splice-append, splice-at, splice-after}
 
 pub put-is : (s : List ℕ) (p : ℕ) (xs : List Bool) → putBits s p xs ≡ pack (length s) (splice p xs (bitsOf s))
 unfolding putBits
@@ -53,26 +53,6 @@ pub bitsAt-putBits : (s : List ℕ) (p : ℕ) (xs : List Bool) → p + length xs
 unfolding bitsAt
 bitsAt-putBits s p xs h = rw (bitsOf-putBits s p xs h) (splice-at p xs (bitsOf s) (omega (arith, length-bitsOf s)))
 
-pub bitsAt-before : (s : List ℕ) (p : ℕ) (xs : List Bool) (q m : ℕ) → p + length xs ≤ 8 * length s → q + m ≤ p
-    → bitsAt (putBits s p xs) q m ≡ bitsAt s q m
-unfolding bitsAt
-bitsAt-before s p xs q m h l =
-    rw (bitsOf-putBits s p xs h)
-    (take-drop q m (splice p xs (bitsOf s)) (omega (arith, long, length-splice p xs (bitsOf s) inside))
-    ∙ ap (λ (bs : List Bool). drop q bs) same ∙ sym (take-drop q m (bitsOf s) (omega (arith, long))))
-  where
-    long : length (bitsOf s) ≡ 8 * length s
-    long = length-bitsOf s
-
-    inside : p + length xs ≤ length (bitsOf s)
-    inside = rw long h
-
-    same : take (q + m) (splice p xs (bitsOf s)) ≡ take (q + m) (bitsOf s)
-    same =
-        sym (take-take (q + m) p (splice p xs (bitsOf s)) l)
-        ∙ ap (λ (bs : List Bool). take (q + m) bs) (splice-before p xs (bitsOf s) (omega (arith, inside)))
-        ∙ take-take (q + m) p (bitsOf s) l
-
 pub bitsAt-after : (s : List ℕ) (p : ℕ) (xs : List Bool) (q m : ℕ) → p + length xs ≤ 8 * length s → p + length xs ≤ q
     → bitsAt (putBits s p xs) q m ≡ bitsAt s q m
 unfolding bitsAt
@@ -87,20 +67,12 @@ bitsAt-after s p xs q m h l =
         rw (e, ← drop-drop (q - (p + length xs)) (p + length xs) (splice p xs (bitsOf s)), splice-after p xs (bitsOf s) (omega (arith, length-bitsOf s)))
         (drop-drop (q - (p + length xs)) (p + length xs) (bitsOf s))
 
+-- a read of the bits that a value was written in finds the value
 pub getBits-putBits : (s : List ℕ) (p n v : ℕ) → p + n ≤ 8 * length s → v < 2 ^ n → getBits (putBits s p (bitsOfNat n v)) p n ≡ v
 unfolding getBits
 getBits-putBits s p n v h hv =
     ap val (rw (length-bitsOfNat n v) at (bitsAt-putBits s p (bitsOfNat n v) (rw (length-bitsOfNat n v) h)))
     ∙ val-bitsOfNat n v ∙ mod-eq-of-lt hv
-
--- a read of the bits that a value was written in finds the value; one elsewhere finds what was there
-pub getBits-before : (s : List ℕ) (p n v q m : ℕ) → p + n ≤ 8 * length s → q + m ≤ p → getBits (putBits s p (bitsOfNat n v)) q m ≡ getBits s q m
-unfolding getBits
-getBits-before s p n v q m h l = ap val (bitsAt-before s p (bitsOfNat n v) q m (rw (length-bitsOfNat n v) h) l)
-
-pub getBits-after : (s : List ℕ) (p n v q m : ℕ) → p + n ≤ 8 * length s → p + n ≤ q → getBits (putBits s p (bitsOfNat n v)) q m ≡ getBits s q m
-unfolding getBits
-getBits-after s p n v q m h l = ap val (bitsAt-after s p (bitsOfNat n v) q m (rw (length-bitsOfNat n v) h) (rw (length-bitsOfNat n v) l))
 
 -- any part of what was written
 pub bitsAt-inside : (s : List ℕ) (p : ℕ) (xs : List Bool) (j k : ℕ) → p + length xs ≤ 8 * length s → j + k ≤ length xs

@@ -14,12 +14,12 @@ use Rattle.tetra_core.specs.Refusal.{passed}
 use Rattle.bits.specs.Laws.Values.{digit-lt}
 use Rattle.tetra_core.specs.declared.bitbuffer.Cursor.{Cursor}
 use Rattle.tetra_core.specs.declared.bitbuffer.Outcome.the-variants.{Done}
-use Rattle.codec.specs.Reader.{got, run}
+use Rattle.codec.specs.Reader.{got, parse}
 use Rattle.codec.specs.Header.{within}
 use Rattle.codec.specs.Row.{size, rowBits, RowFits, rows-append}
 use Rattle.codec.specs.Write.{refusalAt, free}
-use Rattle.codec.specs.Back.{gives, written-back}
-use Rattle.codec.specs.Again.{Every, spelt, read-at, written-again}
+use Rattle.codec.specs.RoundTrip.{parse-row, written-back}
+use Rattle.codec.specs.WrittenAgain.{Every, every-read, read-at, written-again}
 use Rattle.codec.specs.Cases.{flag-back, flag-again, one-again}
 use Rattle.tetra_fields.specs.UplinkAddress.{encryptionRefusal}
 use Rattle.tetra_fields.specs.Laws.ReservationRequirement.{reservation-back, reservation-again}
@@ -43,15 +43,15 @@ mac-access-length h = uplink-length 1 (headOf h) (optionRow (h .option))
 
 -- ---- what was written is read back, up to the kind of an SSI, whatever follows its bits
 
-option-back : (a : MacAccessOption) → optionRefusal a ≡ 0 → (rest : List Bool) (o : ℕ) → run readOption (rowBits (optionRow a) ++ rest) o ≡ got a rest (o + size (optionRow a))
+option-back : (a : MacAccessOption) → optionRefusal a ≡ 0 → (rest : List Bool) (o : ℕ) → parse readOption (rowBits (optionRow a) ++ rest) o ≡ got a rest (o + size (optionRow a))
 unfolding readOption readChosen readRequest
-option-back Without e rest o = rw (gives readOption (optionRow Without) 0 rest o (option-fits Without e))
-option-back (LengthInd n) e rest o = rw (gives readOption (optionRow (LengthInd n)) 0 rest o (option-fits (LengthInd n) e))
+option-back Without e rest o = rw (parse-row readOption (optionRow Without) 0 rest o (option-fits Without e))
+option-back (LengthInd n) e rest o = rw (parse-row readOption (optionRow (LengthInd n)) 0 rest o (option-fits (LengthInd n) e))
 option-back (CapacityRequest f q) e rest o =
-    rw (gives readOption (optionRow (CapacityRequest f q)) 0 rest o (option-fits (CapacityRequest f q) e), flag-back f, reservation-back q .1)
+    rw (parse-row readOption (optionRow (CapacityRequest f q)) 0 rest o (option-fits (CapacityRequest f q) e), flag-back f, reservation-back q .1)
 
 pub mac-access-back : (h : MacAccess) → macAccessRefusal h ≡ 0 → (rest : List Bool) (o : ℕ)
-    → run readMacAccess (rowBits (macAccessRow h) ++ rest) o ≡ got (normal h) rest (o + macAccessSize h)
+    → parse readMacAccess (rowBits (macAccessRow h) ++ rest) o ≡ got (normal h) rest (o + macAccessSize h)
 unfolding readMacAccess macAccessRow macAccessRefusal macAccessSize
 mac-access-back h e =
     let a = allowed _ _ _ e in
@@ -78,11 +78,11 @@ option-every option lo = (
 )
 
 -- a header that was read is refused for its encryption alone, and its bits are those that were read
-pub mac-access-again : (bs : List Bool) {h : MacAccess} {r : List Bool} {n : ℕ} → run readMacAccess bs 0 ≡ got h r n
+pub mac-access-again : (bs : List Bool) {h : MacAccess} {r : List Bool} {n : ℕ} → parse readMacAccess bs 0 ≡ got h r n
     → (encryptionRefusal (h .encrypted) (h .addr) ≡ 0 → macAccessRefusal h ≡ 0) × (rowBits (macAccessRow h) ≡ take n bs)
 unfolding readMacAccess macAccessRow macAccessRefusal
 mac-access-again bs e =
-    rw sub-zero at (spelt readMacAccess (λ h xs. (encryptionRefusal (h .encrypted) (h .addr) ≡ 0 → macAccessRefusal h ≡ 0) × (rowBits (macAccessRow h) ≡ xs))
+    rw sub-zero at (every-read readMacAccess (λ h xs. (encryptionRefusal (h .encrypted) (h .addr) ≡ 0 → macAccessRefusal h ≡ 0) × (rowBits (macAccessRow h) ≡ xs))
     (uplink-every 1 readOption macAccessOf _ _ option-every
     (λ head a xs fits k. (λ z. allowed-test _ _ _ (record { encryption = z; address = fits; fields = k .0 }), rw (rows-append, k .1)))) bs 0 e)
 

@@ -15,18 +15,18 @@ use Rattle.tetra_core.specs.Refusal.{passed}
 use Rattle.bits.specs.Laws.Values.{digit-lt}
 use Rattle.tetra_core.specs.declared.bitbuffer.Cursor.{Cursor}
 use Rattle.tetra_core.specs.declared.bitbuffer.Outcome.the-variants.{Done}
-use Rattle.codec.specs.Reader.{got, run}
+use Rattle.codec.specs.Reader.{got, parse}
 use Rattle.codec.specs.Header.{within}
 use Rattle.codec.specs.Row.{size, rowBits, RowFits, rows-append}
 use Rattle.codec.specs.Write.{refusalAt, free}
-use Rattle.codec.specs.Back.{gives, written-back}
-use Rattle.codec.specs.Again.{Every, spelt, read-at, read-bits, written-again}
+use Rattle.codec.specs.RoundTrip.{parse-row, written-back}
+use Rattle.codec.specs.WrittenAgain.{Every, every-read, read-at, read-bits, written-again}
 use Rattle.codec.specs.Cases.{flag-back, flag-again, one-again}
 use Rattle.tetra_fields.specs.UplinkAddress.{encryptionRefusal}
 use Rattle.tetra_fields.specs.UplinkHead.{uplinkRow}
 use Rattle.tetra_fields.specs.Laws.ReservationRequirement.{reservation-back, reservation-again}
 use Rattle.tetra_fields.specs.Laws.UplinkHead.{allowed, allowed-test, uplink-length, uplink-back, uplink-every}
-use Rattle.mac_data.specs.MacData.{headOf, macDataOf, readRequest, readOption, readMacData, macDataAt, optionRefusal, macDataRefusal, optionRow, macDataRow, macDataSize, macDataWrite, macDataWritten, normal, reservedBit}
+use Rattle.mac_data.specs.MacData.{optionSize, headOf, macDataOf, readRequest, readOption, readMacData, macDataAt, optionRefusal, macDataRefusal, optionRow, macDataRow, macDataSize, macDataWrite, macDataWritten, normal, reservedBit}
 use Rattle.mac_data.specs.declared.mac_data.MacDataOption.{MacDataOption}
 use Rattle.mac_data.specs.declared.mac_data.MacDataOption.the-variants.{LengthInd, CapacityRequest}
 use Rattle.mac_data.specs.declared.mac_data.MacData.{MacData}
@@ -37,29 +37,29 @@ pub option-fits : (o : MacDataOption) → optionRefusal o ≡ 0 → RowFits (opt
 option-fits (LengthInd n) e = let h = leb-true n 63 (passed _ 2 e) in (lit< tt, (omega arith, tt))
 option-fits (CapacityRequest f q) e = (lit< tt, (digit-lt f, (reservation-back q .0, (lit< tt, tt))))
 
-option-size : (o : MacDataOption) → size (optionRow o) ≡ 7
-option-size (LengthInd n) = refl
-option-size (CapacityRequest f q) = refl
+sized : (o : MacDataOption) → size (optionRow o) ≡ optionSize
+sized (LengthInd n) = refl
+sized (CapacityRequest f q) = refl
 
 -- the length of a MAC-DATA
 pub mac-data-length : (h : MacData) → length (rowBits (macDataRow h)) ≡ macDataSize h
 unfolding macDataRow macDataSize
-mac-data-length h = uplink-length 2 (headOf h) (optionRow (h .option)) ∙ rw (option-size (h .option))
+mac-data-length h = uplink-length 2 (headOf h) (optionRow (h .option)) ∙ rw (sized (h .option))
 
 -- ---- what was written is read back, up to the kind of an SSI, whatever follows its bits
 
-option-back : (a : MacDataOption) → optionRefusal a ≡ 0 → (rest : List Bool) (o : ℕ) → run readOption (rowBits (optionRow a) ++ rest) o ≡ got a rest (o + size (optionRow a))
+option-back : (a : MacDataOption) → optionRefusal a ≡ 0 → (rest : List Bool) (o : ℕ) → parse readOption (rowBits (optionRow a) ++ rest) o ≡ got a rest (o + size (optionRow a))
 unfolding readOption readRequest
-option-back (LengthInd n) e rest o = rw (gives readOption (optionRow (LengthInd n)) 0 rest o (option-fits (LengthInd n) e))
+option-back (LengthInd n) e rest o = rw (parse-row readOption (optionRow (LengthInd n)) 0 rest o (option-fits (LengthInd n) e))
 option-back (CapacityRequest f q) e rest o =
-    rw (gives readOption (optionRow (CapacityRequest f q)) 0 rest o (option-fits (CapacityRequest f q) e), flag-back f, reservation-back q .1)
+    rw (parse-row readOption (optionRow (CapacityRequest f q)) 0 rest o (option-fits (CapacityRequest f q) e), flag-back f, reservation-back q .1)
 
 pub mac-data-back : (h : MacData) → macDataRefusal h ≡ 0 → (rest : List Bool) (o : ℕ)
-    → run readMacData (rowBits (macDataRow h) ++ rest) o ≡ got (normal h) rest (o + macDataSize h)
+    → parse readMacData (rowBits (macDataRow h) ++ rest) o ≡ got (normal h) rest (o + macDataSize h)
 unfolding readMacData macDataRow macDataRefusal macDataSize
 mac-data-back h e =
     let a = allowed _ _ _ e in
-    rw (option-size (h .option)) at (uplink-back 2 readOption macDataOf (headOf h) (optionRow (h .option)) (a .address) (option-back (h .option) (a .fields)))
+    rw (sized (h .option)) at (uplink-back 2 readOption macDataOf (headOf h) (optionRow (h .option)) (a .address) (option-back (h .option) (a .fields)))
 
 -- in bytes: what to_bitbuf wrote, from_bitbuf reads at the same cursor
 pub mac-data-written-back : (s : List ℕ) (c : Cursor) (h : MacData) → refusalAt (length s) c (macDataRefusal h) (macDataSize h) ≡ 0
@@ -93,11 +93,11 @@ option-every selector ls = (
 )
 
 -- a header that was read is refused for its encryption alone, and its bits are those that were read
-pub mac-data-again : (bs : List Bool) {h : MacData} {r : List Bool} {n : ℕ} → run readMacData bs 0 ≡ got h r n
+pub mac-data-again : (bs : List Bool) {h : MacData} {r : List Bool} {n : ℕ} → parse readMacData bs 0 ≡ got h r n
     → (encryptionRefusal (h .encrypted) (h .addr) ≡ 0 → macDataRefusal h ≡ 0) × (reservedBit (h .option) (take n bs) ≡ false → rowBits (macDataRow h) ≡ take n bs)
 unfolding readMacData macDataRow macDataRefusal
 mac-data-again bs e =
-    rw sub-zero at (spelt readMacData
+    rw sub-zero at (every-read readMacData
     (λ h xs. (encryptionRefusal (h .encrypted) (h .addr) ≡ 0 → macDataRefusal h ≡ 0) × (reservedBit (h .option) xs ≡ false → rowBits (macDataRow h) ≡ xs))
     (uplink-every 2 readOption macDataOf _ _ option-every
     (λ head a xs fits k. (

@@ -4,7 +4,7 @@ use mathlib.Core.Path.{_≡_, refl, sym}
 use mathlib.Core.List.{List, [], _∷_}
 use mathlib.Core.Bool.{Bool, true, false, _&&_}
 use native.Mathlib.Omega.{arith}
-use borrow.Author.Tests.{leb-true, ltb-true, le-leb, lt-leb, lt-ltb}
+use borrow.Author.Tests.{leb-true, ltb-true, le-leb, lt-leb}
 use lib.ListN.{length}
 use lib.Dec.{leb, ltb}
 use Rattle.bits.specs.Bits.{getBits, bitsOfNat}
@@ -58,10 +58,6 @@ bad-test len c h = cases (goodWindow len c) refl
     cases true e = absurd (h (good-facts len c e))
     cases false e = e
 
--- the window after n bits is good too
-pub moved-good : (len : ℕ) (c : Cursor) (n : ℕ) → Good len c → n ≤ c .end - c .pos → Good len (moved c n)
-moved-good len c n g h = record { begins = omega (arith, g); ends = omega (arith, g); small = g .small; inside = g .inside }
-
 -- ---- a read and a write that nothing refuses
 
 pub record Readable (len : ℕ) (c : Cursor) (p n : ℕ) : Type 0 where
@@ -108,10 +104,6 @@ writable len c v n e =
       room = leb-true _ _ (passed _ 1 (z .0));
     }
 
-pub write-free : (len : ℕ) (c : Cursor) (v n : ℕ) → Writable len c v n → writeRefusal len c v n ≡ 0
-unfolding writeRefusal first
-write-free len c v n r = simp (good-test len c (r .good), le-leb _ _ (r .narrow), lt-ltb _ _ (r .holds), le-leb _ _ (r .room))
-
 -- n bits that a window has from its cursor on
 pub record Roomy (len : ℕ) (c : Cursor) (n : ℕ) : Type 0 where
   pub good : Good len c
@@ -124,22 +116,22 @@ roomy j len c n e =
     let x = first-none (unless (leb n (remaining c)) (suc j)) _ (w .1) in
     record { good = good-facts len c (passed _ 12 (w .0)); room = leb-true _ _ (passed _ j (x .0)) }
 
-pub record Copyable (lent : ℕ) (d : Cursor) (lens : ℕ) (c : Cursor) (n : ℕ) : Type 0 where
-  pub to : Good lent d
-  pub from : Good lens c
+pub record Copyable (tLen : ℕ) (d : Cursor) (sLen : ℕ) (c : Cursor) (n : ℕ) : Type 0 where
+  pub to : Good tLen d
+  pub from : Good sLen c
   pub there : n ≤ c .end - c .pos
   pub room : n ≤ d .end - d .pos
 
-pub copyable : (lent : ℕ) (d : Cursor) (lens : ℕ) (c : Cursor) (n : ℕ) → copyRefusal lent d lens c n ≡ 0 → Copyable lent d lens c n
+pub copyable : (tLen : ℕ) (d : Cursor) (sLen : ℕ) (c : Cursor) (n : ℕ) → copyRefusal tLen d sLen c n ≡ 0 → Copyable tLen d sLen c n
 unfolding copyRefusal
-copyable lent d lens c n e =
-    let w = first-none (unless (goodWindow lent d) 13) _ e in
-    let x = first-none (unless (goodWindow lens c) 13) _ (w .1) in
+copyable tLen d sLen c n e =
+    let w = first-none (unless (goodWindow tLen d) 13) _ e in
+    let x = first-none (unless (goodWindow sLen c) 13) _ (w .1) in
     let y = first-none (unless (leb n (c .end - c .pos)) 1) _ (x .1) in
     let z = first-none (unless (leb n (d .end - d .pos)) 2) _ (y .1) in
     record {
-      to = good-facts lent d (passed _ 12 (w .0));
-      from = good-facts lens c (passed _ 12 (x .0));
+      to = good-facts tLen d (passed _ 12 (w .0));
+      from = good-facts sLen c (passed _ 12 (x .0));
       there = leb-true _ _ (passed _ 0 (y .0));
       room = leb-true _ _ (passed _ 1 (z .0));
     }
@@ -183,7 +175,7 @@ gatherable len c buf e =
 -- ---- the forms of an answer: refused by r, or done
 
 pub read-refused : (r j v : ℕ) (c d : Cursor) → r ≡ j → (r ≡ 0 → ⊥)
-    → record { cursor = c; answer = Refused (record { number = r; bit = 0 }) } ≡ reads j v c d
+    → record { cursor = c; answer = Refused (record { number = r; offset = 0 }) } ≡ reads j v c d
 read-refused r zero v c d e h = absurd (h e)
 read-refused r (suc j) v c d e h = rw e
 

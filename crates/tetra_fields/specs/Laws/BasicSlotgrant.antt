@@ -11,13 +11,13 @@ use Rattle.tetra_core.specs.BitBuffer.{moved}
 use Rattle.tetra_core.specs.Refusal.{passed}
 use Rattle.tetra_core.specs.Laws.Windows.{and-both}
 use Rattle.tetra_core.specs.declared.bitbuffer.Cursor.{Cursor}
-use Rattle.codec.specs.Reader.{got, run}
+use Rattle.codec.specs.Reader.{got, parse}
 use Rattle.codec.specs.Row.{rowBits, RowFits, length-row}
 use Rattle.codec.specs.Write.{refusalAt, free}
-use Rattle.codec.specs.Back.{gives, written-back}
-use Rattle.codec.specs.Again.{Every, spelt}
-use Rattle.codec.specs.Below.{below, numbers}
-use Rattle.tetra_fields.specs.BasicSlotgrant.{capAllocNumber, capAllocOf, delayNumber, delayOf, delayRefusal, readSlotgrant, slotgrantAt, slotgrantRefusal, slotgrantRow, slotgrantWritten}
+use Rattle.codec.specs.RoundTrip.{parse-row, written-back}
+use Rattle.codec.specs.WrittenAgain.{Every, every-read}
+use Rattle.codec.specs.AllBelow.{below, numbers}
+use Rattle.tetra_fields.specs.BasicSlotgrant.{slotgrantSize, capAllocNumber, capAllocOf, delayNumber, delayOf, delayRefusal, readSlotgrant, slotgrantAt, slotgrantRefusal, slotgrantRow, slotgrantWritten}
 use Rattle.tetra_fields.specs.declared.enums.basic_slotgrant_cap_alloc.BasicSlotgrantCapAlloc.{BasicSlotgrantCapAlloc}
 use Rattle.tetra_fields.specs.declared.enums.basic_slotgrant_cap_alloc.BasicSlotgrantCapAlloc.the-variants.{FirstSubslotGranted, Grant1Slot, Grant2Slots, Grant3Slots, Grant4Slots, Grant5Slots, Grant6Slots, Grant8Slots, Grant10Slots, Grant13Slots, Grant17Slots, Grant24Slots, Grant34Slots, Grant51Slots, Grant68Slots, SecondSubslotGranted}
 use Rattle.tetra_fields.specs.declared.enums.basic_slotgrant_granting_delay.BasicSlotgrantGrantingDelay.{BasicSlotgrantGrantingDelay}
@@ -56,7 +56,7 @@ delay-back (DelayNOpportunities n) e =
     let u = leb-true n 13 (b .1) in
     (omega arith, rw (ne-eqb n 0 (λ z. omega arith), ne-eqb n 14 (λ z. omega arith), ne-eqb n 15 (λ z. omega arith)))
 
-pub slotgrant-length : (g : BasicSlotgrant) → length (rowBits (slotgrantRow g)) ≡ 8
+pub slotgrant-length : (g : BasicSlotgrant) → length (rowBits (slotgrantRow g)) ≡ slotgrantSize
 unfolding slotgrantRow
 slotgrant-length g = length-row (slotgrantRow g)
 
@@ -66,14 +66,14 @@ module _ (g : BasicSlotgrant) (e : slotgrantRefusal g ≡ 0) where
   slotgrant-fits = (cap-alloc-back (g .«capacity_allocation») .0, (delay-back (g .«granting_delay») e .0, tt))
 
   -- whatever follows its bits
-  pub slotgrant-back : (rest : List Bool) (o : ℕ) → run readSlotgrant (rowBits (slotgrantRow g) ++ rest) o ≡ got g rest (o + 8)
+  pub slotgrant-back : (rest : List Bool) (o : ℕ) → parse readSlotgrant (rowBits (slotgrantRow g) ++ rest) o ≡ got g rest (o + slotgrantSize)
   unfolding readSlotgrant slotgrantRow slotgrantRefusal
   slotgrant-back rest o =
-      rw (gives readSlotgrant (slotgrantRow g) 0 rest o slotgrant-fits, cap-alloc-back (g .«capacity_allocation») .1, delay-back (g .«granting_delay») e .1)
+      rw (parse-row readSlotgrant (slotgrantRow g) 0 rest o slotgrant-fits, cap-alloc-back (g .«capacity_allocation») .1, delay-back (g .«granting_delay») e .1)
 
 -- in bytes: what to_bitbuf wrote, from_bitbuf reads at the same cursor
-pub slotgrant-written-back : (s : List ℕ) (c : Cursor) (g : BasicSlotgrant) → refusalAt (length s) c (slotgrantRefusal g) 8 ≡ 0
-    → slotgrantAt (slotgrantWritten s c g) c ≡ record { cursor = moved c 8; answer = SlotgrantAnswer.Read g }
+pub slotgrant-written-back : (s : List ℕ) (c : Cursor) (g : BasicSlotgrant) → refusalAt (length s) c (slotgrantRefusal g) slotgrantSize ≡ 0
+    → slotgrantAt (slotgrantWritten s c g) c ≡ record { cursor = moved c slotgrantSize; answer = SlotgrantAnswer.Read g }
 unfolding slotgrantAt
 slotgrant-written-back s c g e =
     written-back readSlotgrant _ _ _ s c (slotgrantRefusal g) _ (slotgrant-length g) (λ rest. slotgrant-back g (free _ _ _ _ e .value) rest 0) e
@@ -100,5 +100,5 @@ pub slotgrant-every : Every readSlotgrant SlotgrantAgain
 unfolding readSlotgrant slotgrantRefusal slotgrantRow rowBits
 slotgrant-every a ha d hd = (delay-free d hd, rw (cap-alloc-numbers a ha, delay-numbers d hd))
 
-pub slotgrant-again : (bs : List Bool) (o : ℕ) {g : BasicSlotgrant} {r : List Bool} {n : ℕ} → run readSlotgrant bs o ≡ got g r n → SlotgrantAgain g (take (n - o) bs)
-slotgrant-again = spelt readSlotgrant SlotgrantAgain slotgrant-every
+pub slotgrant-again : (bs : List Bool) (o : ℕ) {g : BasicSlotgrant} {r : List Bool} {n : ℕ} → parse readSlotgrant bs o ≡ got g r n → SlotgrantAgain g (take (n - o) bs)
+slotgrant-again = every-read readSlotgrant SlotgrantAgain slotgrant-every

@@ -8,7 +8,7 @@ use lib.ListN.{getD}
 use lib.Dec.{leb, lit<}
 use borrow.Author.Tests.{leb-true, lt-leb, ne-eqb}
 use Rattle.tetra_core.specs.Laws.Windows.{and-both}
-use Rattle.codec.specs.Below.{numbers}
+use Rattle.codec.specs.AllBelow.{numbers}
 use Rattle.tetra_fields.specs.ReservationRequirement.{reservationNumber, reservationOf, reservations, slotcount, enough, firstFor, reservationFor}
 use Rattle.tetra_fields.specs.declared.enums.reservation_requirement.ReservationRequirement.{ReservationRequirement}
 use Rattle.tetra_fields.specs.declared.enums.reservation_requirement.ReservationRequirement.the-variants.{Req1Subslot, Req1Slot, Req2Slots, Req3Slots, Req4Slots, Req5Slots, Req6Slots, Req8Slots, Req10Slots, Req13Slots, Req17Slots, Req24Slots, Req34Slots, Req51Slots, Req68Slots, ReqOver68}

@@ -11,7 +11,7 @@ use Rattle.tetra_core.specs.Address.{uplinkAddressType}
 use Rattle.tetra_core.specs.Refusal.{passed}
 use Rattle.tetra_core.specs.declared.address.UplinkAddress.{UplinkAddress}
 use Rattle.tetra_core.specs.declared.address.UplinkAddress.the-variants.{Ssi, EventLabel, Ussi, Smi}
-use Rattle.codec.specs.Below.{numbers}
+use Rattle.codec.specs.AllBelow.{numbers}
 use Rattle.tetra_fields.specs.UplinkAddress.{uplinkWidth, uplinkOf, uplinkNumber, uplinkAddressRefusal, encryptionRefusal, normalUplink}
 
 -- ---- widths

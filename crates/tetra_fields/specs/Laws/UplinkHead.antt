@@ -14,11 +14,11 @@ use Rattle.bits.specs.Bits.{digit, bitsOfNat}
 use Rattle.tetra_core.specs.Refusal.{first, first-none}
 use Rattle.bits.specs.Laws.Values.{digit-lt}
 use Rattle.tetra_core.specs.declared.address.UplinkAddress.{UplinkAddress}
-use Rattle.codec.specs.Reader.{got, Reader, done, run, run-bind, _>>=_}
-use Rattle.codec.specs.Feed.{field-alone}
+use Rattle.codec.specs.Reader.{got, Reader, done, parse, parse-bind, _>>=_}
+use Rattle.codec.specs.Words.{field-alone}
 use Rattle.codec.specs.Row.{Cell, cell, size, rowBits, RowFits, RowIs, length-row, join-bits, row-is, rows-append, rows-joined, one-cell}
-use Rattle.codec.specs.Back.{gives}
-use Rattle.codec.specs.Again.{Every, every-bind}
+use Rattle.codec.specs.RoundTrip.{parse-row}
+use Rattle.codec.specs.WrittenAgain.{Every, every-bind}
 use Rattle.codec.specs.Cases.{flag-back, flag-again}
 use Rattle.tetra_fields.specs.UplinkAddress.{uplinkWidth, uplinkNumber, readUplinkAddress, encryptionRefusal, uplinkAddressRefusal, uplinkAddressRow}
 use Rattle.tetra_fields.specs.UplinkHead.{readUplinkBody, readUplinkHead, uplinkRefusal, uplinkBodyRow, uplinkRow, bodySize, uplinkSize, normalHead}
@@ -85,13 +85,13 @@ uplink-length w h q =
 -- ---- what was written is read back, up to the kind of an SSI
 
 module _ (h : UplinkHead) (e : uplinkAddressRefusal (h .addr) ≡ 0) where
-  body-back : (rest : List Bool) (o : ℕ) → run readUplinkBody (rowBits (uplinkBodyRow h) ++ rest) o ≡ got (normalHead h) rest (o + bodySize (h .addr))
+  body-back : (rest : List Bool) (o : ℕ) → parse readUplinkBody (rowBits (uplinkBodyRow h) ++ rest) o ≡ got (normalHead h) rest (o + bodySize (h .addr))
   unfolding readUplinkBody readUplinkAddress uplinkBodyRow uplinkAddressRow
   body-back rest o =
       rw (
         rows-append (headCells h) (cell width number ∷ []),
         append-assoc,
-        gives readUplinkBody (headCells h) 0 (rowBits (cell width number ∷ []) ++ rest) o (head-fits h),
+        parse-row readUplinkBody (headCells h) 0 (rowBits (cell width number ∷ []) ++ rest) o (head-fits h),
         one-cell width number,
         field-alone width number rest (o + 4) (number-fits (h .addr) e),
         address-back (h .addr),
@@ -107,17 +107,17 @@ module _ (h : UplinkHead) (e : uplinkAddressRefusal (h .addr) ≡ 0) where
       number = uplinkNumber (h .addr)
 
   head-back : (w : ℕ) (rest : List Bool) (o : ℕ)
-      → run (readUplinkHead w) (rowBits (uplinkRow w h) ++ rest) o ≡ got (normalHead h) rest (o + uplinkSize w (h .addr))
+      → parse (readUplinkHead w) (rowBits (uplinkRow w h) ++ rest) o ≡ got (normalHead h) rest (o + uplinkSize w (h .addr))
   unfolding readUplinkHead uplinkRow rowBits
   head-back w rest o = rw (append-assoc, field-alone w 0 (rowBits (uplinkBodyRow h) ++ rest) o (pow-pos w), body-back rest (o + w), add-assoc)
 
 -- make is what puts the head and the value of the fields behind it together
 pub uplink-back : {A B : Type 0} (w : ℕ) (p : Reader A) (make : UplinkHead → A → B) (h : UplinkHead) (q : List Cell) {v : A} → uplinkAddressRefusal (h .addr) ≡ 0
-    → ((rest : List Bool) (o : ℕ) → run p (rowBits q ++ rest) o ≡ got v rest (o + size q)) → (rest : List Bool) (o : ℕ)
-    → run (readUplinkHead w >>= (λ a. p >>= (λ b. done (make a b)))) (rowBits (uplinkRow w h ++ q) ++ rest) o
+    → ((rest : List Bool) (o : ℕ) → parse p (rowBits q ++ rest) o ≡ got v rest (o + size q)) → (rest : List Bool) (o : ℕ)
+    → parse (readUplinkHead w >>= (λ a. p >>= (λ b. done (make a b)))) (rowBits (uplinkRow w h ++ q) ++ rest) o
     ≡ got (make (normalHead h) v) rest (o + (uplinkSize w (h .addr) + size q))
 uplink-back w p make h q e back rest o =
-    rw (rows-append (uplinkRow w h) q, append-assoc, run-bind, head-back h e w (rowBits q ++ rest) o, run-bind, back rest (o + uplinkSize w (h .addr)), add-assoc)
+    rw (rows-append (uplinkRow w h) q, append-assoc, parse-bind, head-back h e w (rowBits q ++ rest) o, parse-bind, back rest (o + uplinkSize w (h .addr)), add-assoc)
 
 -- ---- what was read is written again
 

@@ -4,8 +4,8 @@ use crate::enums::basic_slotgrant_cap_alloc::BasicSlotgrantCapAlloc;
 use crate::enums::basic_slotgrant_granting_delay as granting_delay;
 use crate::enums::basic_slotgrant_granting_delay::BasicSlotgrantGrantingDelay;
 use codec::Ahead;
-use codec::piece;
-use codec::piece::Part;
+use codec::encoded;
+use codec::encoded::Encoded;
 use codec::piece::Piece;
 use tetra_core::bitbuffer;
 use tetra_core::bitbuffer::Cursor;
@@ -15,8 +15,14 @@ use tetra_core::refusal::Refusal;
 ghost use mathlib.Core.Path.{_≡_};
 ghost use Rattle.codec.specs.Ahead.{Ready, ReadsNext};
 ghost use Rattle.codec.specs.Row.{rowBits, RowIs};
-ghost use Rattle.codec.specs.Piece.{Writes};
-ghost use Rattle.tetra_fields.specs.BasicSlotgrant.{readSlotgrant, slotgrantOut, slotgrantAt, slotgrantRow, slotgrantRefusal, slotgrantWrite, slotgrantWritten};
+ghost use Rattle.codec.specs.Encoded.{EncodesOne};
+ghost use Rattle.tetra_fields.specs.BasicSlotgrant.{slotgrantSize, readSlotgrant, slotgrantOut, slotgrantAt, slotgrantRow, slotgrantRefusal, slotgrantWrite, slotgrantWritten};
+
+// The bits of a slot grant.
+const SIZE: usize = 8;
+
+// What the capacity is worth in the word of both fields; the delay is worth 1.
+const CAPACITY: u64 = 1 << 4;
 
 pub struct BasicSlotgrant {
     pub capacity_allocation: BasicSlotgrantCapAlloc,
@@ -56,22 +62,22 @@ fn refused(refusal: Refusal) -> SlotgrantPart
 
 // The slot grant that is ahead.
 pub fn read_slotgrant(a: Ahead) -> SlotgrantPart
-    requires { ⌜ Ready a 8 ⌝ }
+    requires { ⌜ Ready a slotgrantSize ⌝ }
     ensures { λ r. ⌜ ReadsNext (slotgrantOut (a .at)) readSlotgrant a r ⌝ }
 {
     let left = a.left;
-    if left < 8 {
+    if left < SIZE {
         let widths = [4u8, 4];
-        return refused(codec::short(&widths, left, a.at));
+        return refused(codec::fields_past_end(&widths, left, a.at));
     }
-    let x = codec::take(a, 8);
+    let x = codec::next_bits(a, SIZE);
     SlotgrantPart {
         refusal: Refusal {
             number: refusal::NONE,
-            bit: 0,
+            offset: 0,
         },
         grant: BasicSlotgrant {
-            capacity_allocation: cap_alloc::from_raw((x >> 4) % 16),
+            capacity_allocation: cap_alloc::from_raw(x / CAPACITY % 16),
             granting_delay: granting_delay::from_raw((x % 16) as u8),
         },
     }
@@ -86,7 +92,7 @@ pub fn from_bitbuf(s: &[u8], c: Cursor) -> SlotgrantRead
             cursor: c,
             answer: SlotgrantAnswer::Refused(Refusal {
                 number: refusal::BAD_WINDOW,
-                bit: 0,
+                offset: 0,
             }),
         };
     }
@@ -100,7 +106,7 @@ pub fn from_bitbuf(s: &[u8], c: Cursor) -> SlotgrantRead
         };
     }
     SlotgrantRead {
-        cursor: codec::moved_by(c, 8),
+        cursor: codec::moved_by(c, SIZE),
         answer: SlotgrantAnswer::Read(grant),
     }
 }
@@ -129,26 +135,26 @@ pub fn slotgrant_refusal(g: BasicSlotgrant) -> u8
 // The 8 bits of a slot grant as one number.
 pub fn slotgrant_word(g: BasicSlotgrant) -> u64
     requires { ⌜ slotgrantRefusal g ≡ 0 ⌝ }
-    ensures { λ r. ⌜ RowIs (slotgrantRow g) 8 r ⌝ }
+    ensures { λ r. ⌜ RowIs (slotgrantRow g) slotgrantSize r ⌝ }
 {
     let capacity = g.capacity_allocation;
     let delay = g.granting_delay;
-    cap_alloc::into_raw(capacity) * 16 + granting_delay::into_raw(delay)
+    cap_alloc::into_raw(capacity) * CAPACITY + granting_delay::into_raw(delay)
 }
 
 // A slot grant on its way to being written.
-fn slotgrant_part(g: BasicSlotgrant) -> Part
-    ensures { λ r. ⌜ Writes (slotgrantRefusal g) (rowBits (slotgrantRow g)) r ⌝ }
+fn slotgrant_encoded(g: BasicSlotgrant) -> Encoded
+    ensures { λ r. ⌜ EncodesOne (slotgrantRefusal g) slotgrantSize (rowBits (slotgrantRow g)) r ⌝ }
 {
     let number = slotgrant_refusal(g);
     if number != 0 {
-        return piece::refused(number);
+        return encoded::refused(number, SIZE);
     }
-    Part {
+    Encoded {
         number,
         piece: Piece {
             value: slotgrant_word(g),
-            bits: 8,
+            bits: SIZE,
         },
     }
 }
@@ -157,5 +163,5 @@ fn slotgrant_part(g: BasicSlotgrant) -> Part
 pub fn to_bitbuf(s: &mut [u8], c: Cursor, g: BasicSlotgrant) -> Moved
     ensures { λ r. ⌜ (r ≡ slotgrantWrite (now (s .entry)) c g) × (now (s .exit) ≡ slotgrantWritten (now (s .entry)) c g) ⌝ }
 {
-    piece::write_part(s, c, slotgrant_part(g))
+    encoded::write(s, c, slotgrant_encoded(g))
 }

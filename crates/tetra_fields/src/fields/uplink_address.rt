@@ -7,20 +7,33 @@ use tetra_core::refusal;
 use tetra_core::refusal::Refusal;
 ghost use mathlib.Core.Path.{_≡_};
 ghost use Prim.Native.Nat.{_^_, _≤_, _<_};
-ghost use Rattle.codec.specs.Ahead.{Ready, ReadsNext};
-ghost use Rattle.tetra_fields.specs.UplinkAddress.{uplinkWidth, uplinkOf, uplinkNumber, readUplinkAddress, uplinkAddressOut, uplinkAddressRefusal, encryptionRefusal};
+ghost use Rattle.codec.specs.Ahead.{Ready, ReadsNext, Onward};
+ghost use Rattle.tetra_fields.specs.UplinkAddress.{uplinkMost, uplinkWidth, uplinkOf, uplinkNumber, readUplinkAddress, uplinkAddressOut, uplinkAddressRefusal, encryptionRefusal};
 
-// An address as a part of a header: why it is not read, or number 0.
+// The bits of an event label.
+const LABEL_BITS: usize = 10;
+
+// The bits of an SSI, USSI or SMI.
+const NUMBER_BITS: usize = 24;
+
+// What stands before a label is worth this much in the word of both.
+pub(crate) const BEFORE_LABEL: u64 = 1 << 10;
+
+// And before an SSI, USSI or SMI.
+pub(crate) const BEFORE_NUMBER: u64 = 1 << 24;
+
+// An address as a part of a header: why it is not read, or number 0; and what is ahead after it.
 pub struct UplinkAddressPart {
     pub refusal: Refusal,
     pub addr: UplinkAddress,
+    pub after: Ahead,
 }
 
 // The bits of an address of this type.
 pub fn uplink_width(kind: u64) -> usize
-    ensures { λ r. ⌜ (r ≡ uplinkWidth kind) × (10 ≤ r) × (r ≤ 24) ⌝ }
+    ensures { λ r. ⌜ (r ≡ uplinkWidth kind) × (0 < r) × (r ≤ uplinkMost) ⌝ }
 {
-    if kind == 1 { 10 } else { 24 }
+    if kind == 1 { LABEL_BITS } else { NUMBER_BITS }
 }
 
 // The address of this type with the number v.
@@ -38,8 +51,8 @@ fn uplink_of(kind: u64, v: u64) -> UplinkAddress
 
 // The address of this type, which is ahead.
 pub(crate) fn read_uplink_address(a: Ahead, kind: u64) -> UplinkAddressPart
-    requires { ⌜ Ready a 24 ⌝ }
-    ensures { λ r. ⌜ ReadsNext (uplinkAddressOut kind (a .at)) (readUplinkAddress kind) a r × (r .refusal .number ≡ 0 → uplinkWidth kind ≤ a .left) ⌝ }
+    requires { ⌜ Ready a uplinkMost ⌝ }
+    ensures { λ r. ⌜ ReadsNext uplinkAddressOut (readUplinkAddress kind) a r × (r .refusal .number ≡ 0 → Onward a uplinkMost (r .after)) ⌝ }
 {
     let left = a.left;
     let n = uplink_width(kind);
@@ -47,18 +60,20 @@ pub(crate) fn read_uplink_address(a: Ahead, kind: u64) -> UplinkAddressPart
         return UplinkAddressPart {
             refusal: Refusal {
                 number: refusal::READ_PAST_END,
-                bit: a.at,
+                offset: a.at,
             },
             addr: UplinkAddress::EventLabel(0),
+            after: a,
         };
     }
-    let v = codec::take(a, n);
+    let v = codec::next_bits(a, n);
     UplinkAddressPart {
         refusal: Refusal {
             number: refusal::NONE,
-            bit: 0,
+            offset: 0,
         },
         addr: uplink_of(kind, v),
+        after: codec::advance(a, n),
     }
 }
 

@@ -6,11 +6,23 @@ use tetra_core::address::UplinkAddress;
 use tetra_core::refusal;
 use tetra_core::refusal::Refusal;
 ghost use mathlib.Core.Path.{_≡_};
-ghost use Prim.Native.Nat.{_≤_, _<_};
-ghost use Rattle.codec.specs.Ahead.{Ready, ReadsNext};
+ghost use Prim.Native.Nat.{_+_, _^_, _≤_, _<_};
+ghost use Rattle.codec.specs.Ahead.{Ready, ReadsNext, Onward};
 ghost use Rattle.codec.specs.Row.{RowIs};
 ghost use Rattle.tetra_fields.specs.UplinkAddress.{uplinkAddressRefusal};
-ghost use Rattle.tetra_fields.specs.UplinkHead.{readUplinkHead, uplinkHeadOut, bodySize, uplinkSize, uplinkBodyRow, uplinkRefusal};
+ghost use Rattle.tetra_fields.specs.UplinkHead.{behindType, headMost, readUplinkHead, uplinkHeadOut, cutOff, bodySize, uplinkSize, uplinkBodyRow, uplinkRefusal};
+
+// The bits between the PDU type and the address: fill, encrypted and address type.
+const BEHIND_TYPE: usize = 4;
+
+// What the PDU type is worth in the word of these and itself.
+const TYPE: u64 = 1 << 4;
+
+// The same of fill.
+const FILL: u64 = 1 << 3;
+
+// The same of encrypted; the address type is worth 1.
+const ENCRYPTED: u64 = 1 << 2;
 
 pub struct UplinkHead {
     pub fill_bits: bool,
@@ -18,16 +30,16 @@ pub struct UplinkHead {
     pub addr: UplinkAddress,
 }
 
-// The head as a part of a header: why it is not read, or number 0; and its bits.
+// The head as a part of a header: why it is not read, or number 0; and what is ahead after it.
 pub struct UplinkHeadPart {
     pub refusal: Refusal,
     pub head: UplinkHead,
-    pub size: usize,
+    pub after: Ahead,
 }
 
 // What else a refused part holds is not looked at.
-fn refused(refusal: Refusal) -> UplinkHeadPart
-    ensures { λ r. ⌜ (r .refusal ≡ refusal) × (r .size ≡ 0) ⌝ }
+fn refused(refusal: Refusal, a: Ahead) -> UplinkHeadPart
+    ensures { λ r. ⌜ (r .refusal ≡ refusal) × (r .after ≡ a) ⌝ }
 {
     UplinkHeadPart {
         refusal,
@@ -36,62 +48,73 @@ fn refused(refusal: Refusal) -> UplinkHeadPart
             encrypted: false,
             addr: UplinkAddress::EventLabel(0),
         },
-        size: 0,
+        after: a,
     }
 }
 
-// The head of a header whose PDU type has w bits, which is ahead.
-pub fn read_uplink_head(a: Ahead, w: usize) -> UplinkHeadPart
-    requires { ⌜ Ready a 30 × (1 ≤ w) × (w ≤ 2) ⌝ }
-    ensures { λ r. ⌜ ReadsNext (uplinkHeadOut (a .at)) (readUplinkHead w) a r × (r .size ≤ 30) × (r .refusal .number ≡ 0 → r .size ≤ a .left) ⌝ }
+// Why the head that is ahead is not read, where the bits end before its address.
+fn cut_off(a: Ahead, w: usize) -> Refusal
+    requires { ⌜ Ready a headMost × (1 ≤ w) × (w ≤ 2) × (a .left < w + behindType) ⌝ }
+    ensures { λ r. ⌜ ReadsNext cutOff (readUplinkHead w) a r × (r .number ≡ 0 → ⊥) ⌝ }
 {
     let left = a.left;
     let o = a.at;
     if left < w {
-        return refused(Refusal {
+        return Refusal {
             number: refusal::READ_PAST_END,
-            bit: o,
-        });
+            offset: o,
+        };
     }
-    let n = w + 4;
-    if left < n {
-        if codec::take(a, w) != 0 {
-            return refused(Refusal {
-                number: refusal::WRONG_PDU_TYPE,
-                bit: o,
-            });
-        }
-        let widths = [1u8, 1, 2];
-        return refused(codec::short(&widths, left - w, o + w));
-    }
-    let x = codec::take(a, n);
-    if x >> 4 != 0 {
-        return refused(Refusal {
+    if codec::next_bits(a, w) != 0 {
+        return Refusal {
             number: refusal::WRONG_PDU_TYPE,
-            bit: o,
-        });
+            offset: o,
+        };
     }
-    let kind = x % 4;
-    let part = uplink_address::read_uplink_address(codec::on(a, n), kind);
+    let widths = [1u8, 1, 2];
+    codec::fields_past_end(&widths, left - w, o + w)
+}
+
+// The head of a header whose PDU type has w bits, which is ahead.
+pub fn read_uplink_head(a: Ahead, w: usize) -> UplinkHeadPart
+    requires { ⌜ Ready a headMost × (1 ≤ w) × (w ≤ 2) ⌝ }
+    ensures { λ r. ⌜ ReadsNext uplinkHeadOut (readUplinkHead w) a r × (r .refusal .number ≡ 0 → Onward a headMost (r .after)) ⌝ }
+{
+    let left = a.left;
+    let o = a.at;
+    let n = w + BEHIND_TYPE;
+    if left < n {
+        return refused(cut_off(a, w), a);
+    }
+    let x = codec::next_bits(a, n);
+    if x / TYPE != 0 {
+        let refusal = Refusal {
+            number: refusal::WRONG_PDU_TYPE,
+            offset: o,
+        };
+        return refused(refusal, a);
+    }
+    let part = uplink_address::read_uplink_address(codec::advance(a, n), x % 4);
     let refusal = part.refusal;
     let addr = part.addr;
+    let after = part.after;
     UplinkHeadPart {
         refusal,
         head: UplinkHead {
-            fill_bits: (x >> 3) % 2 != 0,
-            encrypted: (x >> 2) % 2 != 0,
+            fill_bits: x / FILL % 2 != 0,
+            encrypted: x / ENCRYPTED % 2 != 0,
             addr,
         },
-        size: n + uplink_address::uplink_width(kind),
+        after,
     }
 }
 
 // The bits of a head whose PDU type has w bits.
 pub fn uplink_size(w: usize, a: UplinkAddress) -> usize
     requires { ⌜ w ≤ 2 ⌝ }
-    ensures { λ r. ⌜ (r ≡ uplinkSize w a) × (r ≤ 30) ⌝ }
+    ensures { λ r. ⌜ (r ≡ uplinkSize w a) × (r ≤ headMost) ⌝ }
 {
-    w + (4 + uplink_address::uplink_width(address::uplink_address_type(a) as u64))
+    w + (BEHIND_TYPE + uplink_address::uplink_width(address::uplink_address_type(a) as u64))
 }
 
 // Why a header is not written whose other fields are refused by option or by 0.
@@ -112,14 +135,14 @@ pub fn uplink_refusal(encrypted: bool, a: UplinkAddress, option: u8) -> u8
 // A head as one number. The PDU type is 0 and adds nothing.
 pub fn uplink_word(h: UplinkHead) -> u64
     requires { ⌜ uplinkAddressRefusal (h .addr) ≡ 0 ⌝ }
-    ensures { λ r. ⌜ RowIs (uplinkBodyRow h) (bodySize (h .addr)) r × (r < 268435456) ⌝ }
+    ensures { λ r. ⌜ RowIs (uplinkBodyRow h) (bodySize (h .addr)) r × (r < 2 ^ 28) ⌝ }
 {
     let addr = h.addr;
     let kind = address::uplink_address_type(addr) as u64;
-    let head = codec::bit(h.fill_bits) * 8 + (codec::bit(h.encrypted) * 4 + kind);
+    let head = codec::bit(h.fill_bits) * FILL + (codec::bit(h.encrypted) * ENCRYPTED + kind);
     let number = uplink_address::uplink_number(addr);
     if kind == 1 {
-        return head * 1024 + number;
+        return head * uplink_address::BEFORE_LABEL + number;
     }
-    head * 16777216 + number
+    head * uplink_address::BEFORE_NUMBER + number
 }

@@ -90,9 +90,9 @@ access-assign-long ws e = long-enough 5 ws _ e
 
 abbrev accessAssignBit : AccessAssignAnswer → ℕ
 accessAssignBit (Read h) = 0
-accessAssignBit (Refused r) = r .bit
+accessAssignBit (Refused r) = r .offset
 
-pub access-assign-bit : (s : List ℕ) (c : Cursor) {d : AccessAssignRead} {r : Refusal} → d ≡ accessAssignAt s c → d .answer ≡ Refused r → r .bit ≤ 65536
+pub access-assign-bit : (s : List ℕ) (c : Cursor) {d : AccessAssignRead} {r : Refusal} → d ≡ accessAssignAt s c → d .answer ≡ Refused r → r .offset ≤ 65536
 unfolding accessAssignAt readAccessAssign accessAssignOf
 access-assign-bit s c e a =
     let b : accessAssignBit (accessAssignAt s c .answer) ≤ 65536 =

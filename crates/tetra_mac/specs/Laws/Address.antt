@@ -8,8 +8,8 @@ use Rattle.tetra_core.specs.declared.address.SsiType.{SsiType}
 use Rattle.tetra_core.specs.declared.address.SsiType.the-variants as Kind'
 use Rattle.tetra_core.specs.declared.address.UplinkAddress.{UplinkAddress}
 use Rattle.tetra_core.specs.declared.address.UplinkAddress.the-variants as Uplink'
-use Rattle.tetra_core.specs.declared.address.TetraAddress.{TetraAddress}
-use Rattle.tetra_core.specs.declared.address.TetraAddress.the-variants as Address'
+use Rattle.tetra_core.specs.declared.address.DownlinkAddress.{DownlinkAddress}
+use Rattle.tetra_core.specs.declared.address.DownlinkAddress.the-variants as Address'
 use Rattle.tetra_fields.specs.UplinkAddress.{uplinkNumber}
 use Rattle.tetra_mac.specs.Address.{ssiKind, ssiOfKind, uplinkKind, uplinkKnown, uplinkValue, addressKind, addressFirst, addressSecond, addressKnown, addressValue}
 use Rattle.tetra_mac.specs.Laws.Reply.{kept}
@@ -35,7 +35,7 @@ uplink-kept (Uplink'.EventLabel l) h = (refl, rw (kept l 65535 h))
 uplink-kept (Uplink'.Ussi v) h = (refl, rw (kept v 4294967295 h))
 uplink-kept (Uplink'.Smi v) h = (refl, rw (kept v 4294967295 h))
 
-abbrev pub AddressTyped : TetraAddress → Type 0
+abbrev pub AddressTyped : DownlinkAddress → Type 0
 AddressTyped Address'.NullPdu = Unit {0}
 AddressTyped (Address'.Ssi k v) = v ≤ 4294967295
 AddressTyped (Address'.EventLabel l) = l ≤ 65535
@@ -45,7 +45,7 @@ AddressTyped (Address'.SsiAndEventLabel k v l) = (v ≤ 4294967295) × (l ≤ 65
 AddressTyped (Address'.SsiAndUsageMarker k v m) = (v ≤ 4294967295) × (m ≤ 255)
 AddressTyped (Address'.SmiAndEventLabel v l) = (v ≤ 4294967295) × (l ≤ 65535)
 
-pub address-kept : (a : TetraAddress) → AddressTyped a
+pub address-kept : (a : DownlinkAddress) → AddressTyped a
     → (addressKnown (addressType a) (addressKind a) ≡ true) × (addressValue (addressType a) (addressKind a) (addressFirst a) (addressSecond a) ≡ a)
 unfolding addressKnown addressValue
 address-kept Address'.NullPdu h = (refl, refl)

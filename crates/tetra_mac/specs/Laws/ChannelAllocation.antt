@@ -10,14 +10,14 @@ use borrow.Author.Tests.{le-leb}
 use Rattle.tetra_core.specs.declared.bitbuffer.Cursor.{Cursor}
 use Rattle.tetra_core.specs.declared.refusal.Refusal.{Refusal}
 use Rattle.codec.specs.Cases.{flag-back}
-use Rattle.tetra_fields.specs.ChannelAllocation.{allocTypeNumber, ulDlNumber, timeslotsNumber, frame18Number, readMonPatterns, readChannelAllocation, channelAllocationAt}
-use Rattle.tetra_fields.specs.Laws.ChannelAllocation.{alloc-type-back, ul-dl-back, timeslots-lt, timeslots-back}
-use Rattle.tetra_fields.specs.declared.fields.channel_allocation.Frame18Pattern.{Frame18Pattern}
-use Rattle.tetra_fields.specs.declared.fields.channel_allocation.Frame18Pattern.the-variants.{Without, Pattern}
-use Rattle.tetra_fields.specs.declared.fields.channel_allocation.ChanAllocElement.{ChanAllocElement}
-use Rattle.tetra_fields.specs.declared.fields.channel_allocation.ChannelAllocationAnswer.{ChannelAllocationAnswer}
-use Rattle.tetra_fields.specs.declared.fields.channel_allocation.ChannelAllocationAnswer.the-variants.{Read, Refused}
-use Rattle.tetra_fields.specs.declared.fields.channel_allocation.ChannelAllocationRead.{ChannelAllocationRead}
+use Rattle.channel_allocation.specs.ChannelAllocation.{allocTypeNumber, ulDlNumber, timeslotsNumber, frame18Number, readMonPatterns, readChannelAllocation, channelAllocationAt}
+use Rattle.channel_allocation.specs.Laws.ChannelAllocation.{alloc-type-back, ul-dl-back, timeslots-lt, timeslots-back}
+use Rattle.channel_allocation.specs.declared.channel_allocation.Frame18Pattern.{Frame18Pattern}
+use Rattle.channel_allocation.specs.declared.channel_allocation.Frame18Pattern.the-variants.{Without, Pattern}
+use Rattle.channel_allocation.specs.declared.channel_allocation.ChanAllocElement.{ChanAllocElement}
+use Rattle.channel_allocation.specs.declared.channel_allocation.ChannelAllocationAnswer.{ChannelAllocationAnswer}
+use Rattle.channel_allocation.specs.declared.channel_allocation.ChannelAllocationAnswer.the-variants.{Read, Refused}
+use Rattle.channel_allocation.specs.declared.channel_allocation.ChannelAllocationRead.{ChannelAllocationRead}
 use Rattle.tetra_mac.specs.ChannelAllocation.{frame18Present, frame18Value, channelAllocationWords, channelAllocationKnown, channelAllocationValue, channelAllocationOfWords}
 use Rattle.tetra_mac.specs.Laws.Placed.{Placed, bit-within}
 use Rattle.tetra_mac.specs.Laws.Reply.{kept, value-known, long-enough}
@@ -65,14 +65,14 @@ channel-allocation-long ws e = long-enough 9 ws _ e
 
 abbrev channelAllocationBit : ChannelAllocationAnswer → ℕ
 channelAllocationBit (Read e) = 0
-channelAllocationBit (Refused r) = r .bit
+channelAllocationBit (Refused r) = r .offset
 
 pub channel-allocation-placed : (o : ℕ) → Placed o readChannelAllocation
 unfolding readChannelAllocation readMonPatterns
 channel-allocation-placed o = λ _ _ _ _ _ _ _. (omega arith, λ _. ((λ _. (omega arith, tt)), (omega arith, tt)))
 
 pub channel-allocation-bit : (s : List ℕ) (c : Cursor) {d : ChannelAllocationRead} {r : Refusal}
-    → d ≡ channelAllocationAt s c → d .answer ≡ Refused r → r .bit ≤ 65536
+    → d ≡ channelAllocationAt s c → d .answer ≡ Refused r → r .offset ≤ 65536
 unfolding channelAllocationAt
 channel-allocation-bit s c e a =
     let b : channelAllocationBit (channelAllocationAt s c .answer) ≤ 65536 =

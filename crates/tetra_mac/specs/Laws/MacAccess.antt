@@ -55,9 +55,9 @@ mac-access-long ws e = long-enough 8 ws _ e
 
 abbrev macAccessBit : MacAccessAnswer → ℕ
 macAccessBit (Read h) = 0
-macAccessBit (Refused r) = r .bit
+macAccessBit (Refused r) = r .offset
 
-pub mac-access-bit : (s : List ℕ) (c : Cursor) {d : MacAccessRead} {r : Refusal} → d ≡ macAccessAt s c → d .answer ≡ Refused r → r .bit ≤ 65536
+pub mac-access-bit : (s : List ℕ) (c : Cursor) {d : MacAccessRead} {r : Refusal} → d ≡ macAccessAt s c → d .answer ≡ Refused r → r .offset ≤ 65536
 unfolding macAccessAt readMacAccess readOption readChosen readRequest readUplinkHead readUplinkBody readUplinkAddress
 mac-access-bit s c e a =
     let b : macAccessBit (macAccessAt s c .answer) ≤ 65536 =

@@ -45,9 +45,9 @@ mac-data-long ws e = mac-access-long ws (and-both (macAccessKnown ws) (flag (wor
 
 abbrev macDataBit : MacDataAnswer → ℕ
 macDataBit (Read h) = 0
-macDataBit (Refused r) = r .bit
+macDataBit (Refused r) = r .offset
 
-pub mac-data-bit : (s : List ℕ) (c : Cursor) {d : MacDataRead} {r : Refusal} → d ≡ macDataAt s c → d .answer ≡ Refused r → r .bit ≤ 65536
+pub mac-data-bit : (s : List ℕ) (c : Cursor) {d : MacDataRead} {r : Refusal} → d ≡ macDataAt s c → d .answer ≡ Refused r → r .offset ≤ 65536
 unfolding macDataAt readMacData readOption readRequest readUplinkHead readUplinkBody readUplinkAddress
 mac-data-bit s c e a =
     let b : macDataBit (macDataAt s c .answer) ≤ 65536 =

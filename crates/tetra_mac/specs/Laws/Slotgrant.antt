@@ -46,9 +46,9 @@ slotgrant-long ws e = long-enough 3 ws _ e
 
 abbrev slotgrantBit : SlotgrantAnswer → ℕ
 slotgrantBit (Read g) = 0
-slotgrantBit (Refused r) = r .bit
+slotgrantBit (Refused r) = r .offset
 
-pub slotgrant-bit : (s : List ℕ) (c : Cursor) {d : SlotgrantRead} {r : Refusal} → d ≡ slotgrantAt s c → d .answer ≡ Refused r → r .bit ≤ 65536
+pub slotgrant-bit : (s : List ℕ) (c : Cursor) {d : SlotgrantRead} {r : Refusal} → d ≡ slotgrantAt s c → d .answer ≡ Refused r → r .offset ≤ 65536
 unfolding slotgrantAt readSlotgrant
 slotgrant-bit s c e a =
     let b : slotgrantBit (slotgrantAt s c .answer) ≤ 65536 =

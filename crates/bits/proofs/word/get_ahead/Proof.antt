@@ -21,7 +21,7 @@ returns-2 c =
     let w = c .before .before .before .before in
     let a = w .before .before .before .args in
     let at = w .word-start .result in
-    rw (c .wide .ensures, c .before .before .before .load8 .ensures)
+    rw (c .widen .ensures, c .before .before .before .load8 .ensures)
     (rw (add-sub-of-le (inside w)) at (leading-nine (now (a .s)) at (a .pos - 8 * at) (omega arith) (omega arith) (omega (arith, w .before .before .shared-slice-known .given (at + 8)))))
 
 returns-3 : tie.Need-returns-3

@@ -11,7 +11,7 @@ use Rattle.bits.proofs.word.load1.Tie as tie
 returns : tie.Need-returns
 returns c =
     let a = c .before .before .before .args in
-    rw (c .wide .ensures ∙ sym (getBits-byte (now (a .s)) (a .at) (omega arith) (omega (arith, c .before .shared-slice-known2 .given (a .at)))))
+    rw (c .widen .ensures ∙ sym (getBits-byte (now (a .s)) (a .at) (omega arith) (omega (arith, c .before .shared-slice-known2 .given (a .at)))))
     (shl-exact 8 (a .k) 64 (getBits-lt _ _ 8 (omega arith)) (omega arith))
 
 pub load1-spec : {M : Type 1} → statement M

@@ -23,7 +23,7 @@ loop-again : tie.Need-loop-again Inv-loop μ-loop
 loop-again c =
     let l = c .before .before .before .loop in
     let k = c .before .before .before .before in
-    (omega arith, rw (c .wide .ensures) (getBits-next _ (l .i) (l .all) (l .inv .1) (omega arith) (omega arith) (omega (arith, k .shared-slice-known .given (l .i)))))
+    (omega arith, rw (c .widen .ensures) (getBits-next _ (l .i) (l .all) (l .inv .1) (omega arith) (omega arith) (omega (arith, k .shared-slice-known .given (l .i)))))
 
 returns : tie.Need-returns Inv-loop μ-loop
 returns c =

@@ -41,7 +41,7 @@ loop-again : tie.Need-loop-again Inv-loop μ-loop
 loop-again c =
     let a = c .before .before .before .before .before .before .args in
     let l = c .before .before .before .before .loop in
-    let k = c .before .before .least .result in
+    let k = c .before .before .min .result in
     let r = a .n - l .done - k in
     let at = (a .pos + l .done) / 8 in
     let o = (a .pos + l .done) % 8 in

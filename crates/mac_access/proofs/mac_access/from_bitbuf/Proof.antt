@@ -4,7 +4,7 @@ use borrow.Author.Tests.{eq-eqb, ne-eqb}
 use denote.Ref.{now}
 use Rattle.tetra_core.specs.Laws.Windows.{good-facts}
 use Rattle.codec.specs.Header.{within, bad-seen, good-seen, ends, read}
-use Rattle.codec.specs.Reader.{run}
+use Rattle.codec.specs.Reader.{parse}
 use Rattle.mac_access.specs.MacAccess.{readMacAccess, macAccessOut, macAccessAt}
 use Rattle.mac_access.proofs.mac_access.from_bitbuf.Statement.{statement}
 use Rattle.mac_access.proofs.mac_access.from_bitbuf.Tie as tie
@@ -18,7 +18,7 @@ load-requires c κs = good-facts _ _ (good-seen _ _ (c .before .good-window .ens
 
 -- what was read, as the reader's outcome
 outcome : (c : tie.After-read-mac-access)
-    → let a = c .before .before .before .before .before .args in let h = within (now (a .s)) (a .c) in run readMacAccess h 0 ≡ macAccessOut h (c .read-mac-access .result)
+    → let a = c .before .before .before .before .before .args in let h = within (now (a .s)) (a .c) in parse readMacAccess h 0 ≡ macAccessOut h (c .read-mac-access .result)
 outcome c = let l = c .before .load .ensures in
     rw (l .2) at (read (c .read-mac-access .ensures .of _ (l .0)) refl)
 

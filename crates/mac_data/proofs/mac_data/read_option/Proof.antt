@@ -2,15 +2,15 @@ use mathlib.Core.List.{[], _∷_}
 use native.Mathlib.Omega.{arith}
 use borrow.Author.Needs.{needs}
 use borrow.Author.Tests.{eq-eqb, ne-eqb}
-use Rattle.codec.specs.Header.{fed, alone}
-use Rattle.codec.specs.Ahead.{held-on, starved-next, starved-field}
+use Rattle.codec.specs.Header.{parsed-word, alone}
+use Rattle.codec.specs.Ahead.{held-on, ahead-short, ahead-field-short}
 use Rattle.mac_data.specs.MacData.{readOption, readRequest}
 use Rattle.mac_data.proofs.mac_data.read_option.Statement.{statement}
 use Rattle.mac_data.proofs.mac_data.read_option.Tie as tie
 
 returns : tie.Need-returns
 unfolding readOption
-returns c = record { of = λ h e. record { means = rw (c .no-option .ensures, starved-field 1 e (c .before .if1 .taken)) } }
+returns c = record { of = λ h e. record { means = rw (c .no-option .ensures, ahead-field-short 1 e (c .before .if1 .taken)) } }
 
 returns-2 : tie.Need-returns-2
 unfolding readOption
@@ -21,9 +21,9 @@ returns-2 c =
       of = λ h e. record {
         means = rw (
           c .no-option2 .ensures,
-          alone (t .take .ensures .word h e i),
+          alone (t .next-bits .ensures .word h e i),
           eq-eqb _ _ (c .before .if3 .taken),
-          starved-field 6 (held-on 1 e i) (omega arith),
+          ahead-field-short 6 (held-on 1 e i) (omega arith),
         );
       };
     }
@@ -37,11 +37,11 @@ returns-3 c =
     record {
       of = λ h e. record {
         means = rw (
-          alone (t .take .ensures .word h e i),
+          alone (t .next-bits .ensures .word h e i),
           ne-eqb _ _ (k .if3 .left),
           c .no-option3 .ensures,
-          c .before .short .ensures,
-          starved-next readRequest (1 ∷ 4 ∷ 1 ∷ []) (λ _ _ _. tt) (held-on 1 e i) (omega arith),
+          c .before .fields-past-end .ensures,
+          ahead-short readRequest (1 ∷ 4 ∷ 1 ∷ []) (λ _ _ _. tt) (held-on 1 e i) (omega arith),
         );
       };
     }
@@ -52,7 +52,7 @@ returns-4 c =
     let x = c .before .before in
     record {
       of = λ h e. record {
-        means = rw (c .option-read .ensures, fed readOption (x .take2 .ensures .word h e (x .before .if2 .left)), eq-eqb _ _ (c .before .if4 .taken));
+        means = rw (c .option-read .ensures, parsed-word readOption (x .next-bits2 .ensures .word h e (x .before .if2 .left)), eq-eqb _ _ (c .before .if4 .taken));
       };
     }
 
@@ -65,7 +65,7 @@ returns-5 c =
       of = λ h e. record {
         means = rw (
           c .option-read2 .ensures,
-          fed readOption (x .take2 .ensures .word h e (x .before .if2 .left)),
+          parsed-word readOption (x .next-bits2 .ensures .word h e (x .before .if2 .left)),
           ne-eqb _ _ (f .if4 .left),
           c .before .from-raw .ensures,
         );

@@ -17,7 +17,7 @@ returns c =
     let k = f .before .before .before .before in
     let a = k .before .before .before .before .args in
     let n = length-bitsAt (now (a .s)) (a .pos) (a .n) (omega arith) in
-    rw (f .put-run .ensures, k .copy-run .ensures)
+    rw (f .put-span .ensures, k .copy-span .ensures)
     (rw (n, zero-add) at (putBits-append (now (a .buf)) 0 (bitsAt (now (a .s)) (a .pos) (a .n)) (replicate (fillOf (a .n)) false) (omega (arith, n))))
 
 pub copy-octets-spec : {M : Type 1} → statement M

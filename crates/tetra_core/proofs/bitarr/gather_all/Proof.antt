@@ -27,13 +27,13 @@ put-bits-requires : tie.Need-put-bits-requires Inv-loop μ-loop
 put-bits-requires c κs =
     let b = now (c .before .before .before .before .before .before .before .args .buf) in
     let l = c .before .before .before .before .loop in
-    (omega arith, omega arith, omega arith, rw (c .gather .ensures) (gathered-lt b (l .done) (c .before .before .least .result) (omega arith)))
+    (omega arith, omega arith, omega arith, rw (c .gather .ensures) (gathered-lt b (l .done) (c .before .before .min .result) (omega arith)))
 
 loop-again : tie.Need-loop-again Inv-loop μ-loop
 loop-again c =
     let a = c .before .before .before .before .before .before .before .before .before .before .args in
     let l = c .before .before .before .before .before .before .before .loop in
-    let k = c .before .before .before .before .before .least .result in (
+    let k = c .before .before .before .before .before .min .result in (
       omega arith,
       omega arith,
       c .before .before .put-bits .ensures ∙ rw (c .before .before .before .gather .ensures)

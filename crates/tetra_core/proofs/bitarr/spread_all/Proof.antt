@@ -25,7 +25,7 @@ loop-again : tie.Need-loop-again Inv-loop μ-loop
 loop-again c =
     let a = c .before .before .before .before .before .before .before .before .before .before .args in
     let l = c .before .before .before .before .before .before .before .loop in
-    let k = c .before .before .before .before .before .least .result in (
+    let k = c .before .before .before .before .before .min .result in (
       omega arith,
       omega arith,
       c .before .before .spread .ensures ∙ rw (c .before .before .before .before .get-bits .ensures)

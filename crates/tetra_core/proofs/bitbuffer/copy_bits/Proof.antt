@@ -18,8 +18,8 @@ returns c =
     let e = c .before .copy-refusal .ensures in
     (copy-refused _ _ _ _ _ _ e (c .if1 .taken), bytes-refused _ _ _ _ e (c .if1 .taken))
 
-copy-run-requires : tie.Need-copy-run-requires
-copy-run-requires c κs =
+copy-span-requires : tie.Need-copy-span-requires
+copy-span-requires c κs =
     let r = copyable _ _ _ _ _ (none (c .before)) in
     let g = r .to in
     let h = r .from in
@@ -36,7 +36,7 @@ unfolding copyBits copied
 returns-2 c =
     let w = c .before .before .before .before in
     let e = none (w .before .before) in
-    (rw (c .before .moved-to .ensures, c .moved-to2 .ensures) (copy-done _ _ _ _ _ e), w .copy-run .ensures ∙ bytes-done _ _ _ e)
+    (rw (c .before .moved-to .ensures, c .moved-to2 .ensures) (copy-done _ _ _ _ _ e), w .copy-span .ensures ∙ bytes-done _ _ _ e)
 
 pub copy-bits-spec : {M : Type 1} → statement M
 copy-bits-spec =
@@ -44,7 +44,7 @@ copy-bits-spec =
     (tie.spec
     (λ c κs. search needs)
     returns
-    copy-run-requires
+    copy-span-requires
     add-moved-to
     (λ c κs. search needs)
     add-moved-to-2

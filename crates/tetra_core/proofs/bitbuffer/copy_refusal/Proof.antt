@@ -8,10 +8,10 @@ use Rattle.tetra_core.specs.Laws.Windows.{good-facts}
 use Rattle.tetra_core.proofs.bitbuffer.copy_refusal.Statement.{statement}
 use Rattle.tetra_core.proofs.bitbuffer.copy_refusal.Tie as tie
 
-to : (c : tie.Else1) → goodWindow (c .before .before .args .lent) (c .before .before .args .d) ≡ true
+to : (c : tie.Else1) → goodWindow (c .before .before .args .t-len) (c .before .before .args .d) ≡ true
 to c = sym (c .before .good-window .ensures) ∙ not-false _ (c .if1 .left)
 
-from : (c : tie.Else2) → goodWindow (c .before .before .before .before .args .lens) (c .before .before .before .before .args .c) ≡ true
+from : (c : tie.Else2) → goodWindow (c .before .before .before .before .args .s-len) (c .before .before .before .before .args .c) ≡ true
 from c = sym (c .before .good-window2 .ensures) ∙ not-false _ (c .if2 .left)
 
 returns : tie.Need-returns

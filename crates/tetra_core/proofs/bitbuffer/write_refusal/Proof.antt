@@ -14,7 +14,7 @@ good : (c : tie.Else1) → goodWindow (c .before .before .args .len) (c .before 
 good c = sym (c .before .good-window .ensures) ∙ not-false _ (c .if1 .left)
 
 wide : (c : tie.Else3) → ltb (c .before .before .before .before .before .args .value) (2 ^ c .before .before .before .before .before .args .num-bits) ≡ true
-wide c = sym (c .before .is-wide-enough .ensures) ∙ not-false _ (c .if3 .left)
+wide c = sym (c .before .value-fits .ensures) ∙ not-false _ (c .if3 .left)
 
 returns : tie.Need-returns
 unfolding writeRefusal first
@@ -27,7 +27,7 @@ returns-2 c = rw (good (c .before), lt-leb _ _ (c .if2 .taken))
 returns-3 : tie.Need-returns-3
 unfolding writeRefusal first
 returns-3 c =
-    rw (good (c .before .before .before), le-leb _ _ (c .before .before .if2 .left), sym (c .before .is-wide-enough .ensures) ∙ not-true _ (c .if3 .taken))
+    rw (good (c .before .before .before), le-leb _ _ (c .before .before .if2 .left), sym (c .before .value-fits .ensures) ∙ not-true _ (c .if3 .taken))
 
 sub-if4 : tie.Need-sub-if4
 sub-if4 c = good-facts _ _ (good (c .before .before .before .before)) .ends

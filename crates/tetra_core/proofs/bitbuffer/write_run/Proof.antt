@@ -18,8 +18,8 @@ returns c =
     let e = c .before .room-refusal .ensures in
     (move-refused _ _ _ _ e (c .if1 .taken), bytes-refused _ _ _ _ e (c .if1 .taken))
 
-put-run-requires : tie.Need-put-run-requires
-put-run-requires c κs = let r = roomy 1 _ _ _ (none (c .before)) in let g = r .good in omega arith
+put-span-requires : tie.Need-put-span-requires
+put-span-requires c κs = let r = roomy 1 _ _ _ (none (c .before)) in let g = r .good in omega arith
 
 add-moved-to : tie.Need-add-moved-to
 add-moved-to c = let r = roomy 1 _ _ _ (none (c .before .before .before .before)) in let g = r .good in omega arith
@@ -29,8 +29,8 @@ unfolding writeRun runWritten
 returns-2 c =
     let w = c .before .before .before in
     let e = none (w .before .before) in
-    (rw (c .moved-to .ensures) (move-done _ _ _ e), w .put-run .ensures ∙ bytes-done _ _ _ e)
+    (rw (c .moved-to .ensures) (move-done _ _ _ e), w .put-span .ensures ∙ bytes-done _ _ _ e)
 
 pub write-run-spec : {M : Type 1} → statement M
 write-run-spec =
-    tie.close (tie.spec (λ c κs. search needs) returns put-run-requires add-moved-to (λ c κs. search needs) (λ c. search needs) returns-2)
+    tie.close (tie.spec (λ c κs. search needs) returns put-span-requires add-moved-to (λ c κs. search needs) (λ c. search needs) returns-2)

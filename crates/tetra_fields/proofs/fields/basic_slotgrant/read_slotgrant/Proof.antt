@@ -1,7 +1,7 @@
 use mathlib.Core.List.{[], _∷_}
 use borrow.Author.Needs.{needs}
-use Rattle.codec.specs.Header.{fed}
-use Rattle.codec.specs.Ahead.{starved-next}
+use Rattle.codec.specs.Header.{parsed-word}
+use Rattle.codec.specs.Ahead.{ahead-short}
 use Rattle.tetra_fields.specs.BasicSlotgrant.{readSlotgrant}
 use Rattle.tetra_fields.proofs.fields.basic_slotgrant.read_slotgrant.Statement.{statement}
 use Rattle.tetra_fields.proofs.fields.basic_slotgrant.read_slotgrant.Tie as tie
@@ -9,14 +9,14 @@ use Rattle.tetra_fields.proofs.fields.basic_slotgrant.read_slotgrant.Ti
 returns : tie.Need-returns
 unfolding readSlotgrant
 returns c = record {
-  of = λ h e. record { means = rw (c .refused .ensures, c .before .short .ensures, starved-next readSlotgrant (4 ∷ 4 ∷ []) (λ _ _. tt) e (c .before .before .before .if1 .taken)) };
+  of = λ h e. record { means = rw (c .refused .ensures, c .before .fields-past-end .ensures, ahead-short readSlotgrant (4 ∷ 4 ∷ []) (λ _ _. tt) e (c .before .before .before .if1 .taken)) };
 }
 
 returns-2 : tie.Need-returns-2
 unfolding readSlotgrant
 returns-2 c = record {
   of = λ h e. record {
-    means = rw (fed readSlotgrant (c .before .before .take .ensures .word h e (c .before .before .before .if1 .left)), c .before .from-raw .ensures, c .from-raw2 .ensures);
+    means = rw (parsed-word readSlotgrant (c .before .before .next-bits .ensures .word h e (c .before .before .before .if1 .left)), c .before .from-raw .ensures, c .from-raw2 .ensures);
   };
 }
 

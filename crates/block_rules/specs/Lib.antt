@@ -1,0 +1,12 @@
+pub mod Numbers
+pub mod Extent
+pub mod Ending
+pub mod Codec
+pub mod Read
+pub mod Walk
+pub mod Writer
+pub mod Run
+pub mod Altered
+pub mod Demand3
+pub mod Downlink
+pub mod Laws

@@ -1,0 +1,2 @@
+-- The laws of the channel allocation that other crates cite.
+pub mod ChannelAllocation

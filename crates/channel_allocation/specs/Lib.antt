@@ -1,0 +1,2 @@
+pub mod ChannelAllocation
+pub mod Laws
