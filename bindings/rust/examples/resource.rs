@@ -1,5 +1,5 @@
 //! A MAC-RESOURCE to SSI 1 without content: counted, written with its fill, printed, read back, and read from too few bits.
-use tetra_mac::{Cursor, MacResource, Refusal, SsiType, DownlinkAddress, write_bits};
+use tetra_mac::{Cursor, DownlinkAddress, MacResource, Refusal, SsiType, write_bits};
 
 fn main() -> Result<(), Refusal> {
     let mut pdu = [0u8; 6];

@@ -15,7 +15,9 @@ pub fn read_bits(s: &[u8], c: Cursor, num_bits: usize) -> Result<(u64, Cursor), 
 pub fn peek_bits_posoffset(s: &[u8], c: Cursor, offset: isize, num_bits: usize) -> Result<u64, Refusal> {
     let mut out = [0u64; 2];
     // As above.
-    let status = unsafe { sys::tetra_peek_bits_posoffset(s.as_ptr(), s.len(), c.start, c.pos, c.end, offset, num_bits, out.as_mut_ptr(), out.len()) };
+    let status = unsafe {
+        sys::tetra_peek_bits_posoffset(s.as_ptr(), s.len(), c.start, c.pos, c.end, offset, num_bits, out.as_mut_ptr(), out.len())
+    };
     Refusal::of_status(status)?;
     Ok(out[1])
 }

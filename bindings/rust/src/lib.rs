@@ -41,7 +41,7 @@ mod usage;
 
 pub use access_assign::AccessAssign;
 pub use access_field::{AccessCode, AccessField, BaseFrameLength};
-pub use address::{SsiType, DownlinkAddress, UplinkAddress};
+pub use address::{DownlinkAddress, SsiType, UplinkAddress};
 pub use bits::{peek_bits_posoffset, read_bits, write_bits};
 pub use channel_allocation::{ChanAllocElement, ChanAllocType, UlDlAssignment};
 pub use cursor::Cursor;

@@ -1,7 +1,7 @@
 //! Clause 21.4.3.1, MAC-RESOURCE: 16 bits for a null PDU, else 29 to 92.
 use crate::record::{self, Record, number8};
 use crate::sys;
-use crate::{BasicSlotgrant, ChanAllocElement, Cursor, Refusal, DownlinkAddress};
+use crate::{BasicSlotgrant, ChanAllocElement, Cursor, DownlinkAddress, Refusal};
 
 /// Mark in the place of a length: the start of fragments.
 pub const MAC_RESOURCE_LENGTH_FRAG_START: u8 = 63;

@@ -1,4 +1,5 @@
 // Lists the block of each file that an argument names, then writes blocks of 488 and 489 bits. Held to the file stdout.
+use bits::word;
 use block_lines::file;
 use block_lines::print;
 use block_rules::MOST_BITS;
@@ -13,10 +14,6 @@ use optional_elements::slot_granting::OptionalGrant;
 use tetra_core::address::DownlinkAddress;
 use tetra_core::address::SsiType;
 use tetra_core::bitbuffer::Outcome;
-
-fn wide(x: u8) -> u64 {
-    x as u64
-}
 
 fn text(t: &[u8]) {
     io::write_all(STDOUT_FILENO, t);
@@ -74,7 +71,7 @@ fn to_ssi_1() -> ResourceToAdd {
 
 // The length field of a header that begins with these two bytes: 6 bits behind the first 7.
 fn length_of(first: u8, second: u8) -> u64 {
-    wide(first) % 2 * 32 + wide(second) / 8
+    word::widen(first) % 2 * 32 + word::widen(second) / 8
 }
 
 // One PDU with so many bits of content, added to a block of 488 bits: its number of octets and the listing, or what refuses it.
@@ -94,7 +91,7 @@ fn add_one(content_bits: usize) {
         }
         Outcome::Refused(n) => {
             text(b" refused ");
-            number(wide(n));
+            number(word::widen(n));
             text(b"\n");
         }
     }

@@ -38,10 +38,6 @@ pub fn untouched() -> [u64; 32] {
     [UNTOUCHED; 32]
 }
 
-pub fn wide(x: u8) -> u64 {
-    x as u64
-}
-
 fn octet(s: &[u8], at: usize) -> u8 {
     if at < s.len() { s[at] } else { 0 }
 }
@@ -61,14 +57,17 @@ fn long(s: &[u8], at: usize, n: u64) -> u64 {
     let mut v: u64 = 0;
     let mut i: u64 = 0;
     while i < n {
-        v = std::num::wrapping_add_u64((v % 72057594037927936) * 256, wide(octet(s, ahead(at, i))));
+        v = std::num::wrapping_add_u64(
+            (v % 72057594037927936) * 256,
+            bits::word::widen(octet(s, ahead(at, i))),
+        );
         i += 1;
     }
     v
 }
 
 pub fn take(s: &[u8], at: usize) -> Number {
-    let b = wide(octet(s, at));
+    let b = bits::word::widen(octet(s, at));
     let next = ahead(at, 1);
     if b < 248 {
         return Number { value: b, next };

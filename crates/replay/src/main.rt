@@ -258,7 +258,7 @@ fn same(
         case(n, call);
         text(b" byte");
         digits(j as u64);
-        told(list::wide(bytes[j]), list::wide(left[j]));
+        told(bits::word::widen(bytes[j]), bits::word::widen(left[j]));
         return false;
     }
     true

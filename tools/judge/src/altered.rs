@@ -54,8 +54,8 @@ fn alone(own: &[bool]) -> Result<Option<BlockEntry>, Refusal> {
 
 /// "Place is the number in the walk, the bit, and the end where there is one": by the rules.
 fn place(block: &[bool], p: usize) -> (usize, Option<usize>) {
-    match model::frame(block, p) {
-        model::Frame::Sized(end) => (p, Some(end)),
+    match model::bounds(block, p) {
+        model::Bounds::Sized(end) => (p, Some(end)),
         _ => (p, None),
     }
 }

@@ -3,7 +3,7 @@
 //! which must say the same.
 use crate::blocks;
 use crate::case::{Case, Ours, Theirs};
-use crate::model::{self, Frame};
+use crate::model::{self, Bounds};
 use crate::original;
 use crate::ours::Refusal;
 use tetra_core::BitBuffer;
@@ -51,9 +51,9 @@ pub fn theirs_step(c: &Case, b: &mut BitBuffer) -> Theirs {
         return Theirs::Rule(13, 0);
     }
     let block = model::bits(&c.bytes, n);
-    let end = match model::frame(&block, p) {
-        Frame::End => return Theirs::Done(vec![]),
-        Frame::Unsized(8, bit) => return Theirs::Rule(8, bit),
+    let end = match model::bounds(&block, p) {
+        Bounds::End => return Theirs::Done(vec![]),
+        Bounds::Unsized(8, bit) => return Theirs::Rule(8, bit),
         // The original has its own word on a type that is not 0.
         _ => model::extent(&block, p),
     };
@@ -163,12 +163,12 @@ pub fn ours_step(c: &Case) -> Option<Ours> {
         Ok(entry) => entry,
         Err(r) => return Some(Err(r)),
     };
-    match (model::frame(&model::bits(&c.bytes, n), p), entry) {
-        (Frame::End, None) => Some(Ok((p, vec![]))),
-        (Frame::Null, Some(BlockEntry::Null(bit))) if bit == p => Some(Ok((p + 16, vec![]))),
-        (Frame::Unsized(..), Some(BlockEntry::Refused(e))) if (e.bit, e.end) == (p, None) => Some(Err(e.refusal)),
-        (Frame::Sized(end), Some(BlockEntry::Refused(e))) if (e.bit, e.end) == (p, Some(end)) => Some(Err(e.refusal)),
-        (Frame::Sized(end), Some(BlockEntry::Resource(e))) if (e.bit, e.end) == (p, end) => {
+    match (model::bounds(&model::bits(&c.bytes, n), p), entry) {
+        (Bounds::End, None) => Some(Ok((p, vec![]))),
+        (Bounds::Null, Some(BlockEntry::Null(bit))) if bit == p => Some(Ok((p + 16, vec![]))),
+        (Bounds::Unsized(..), Some(BlockEntry::Refused(e))) if (e.bit, e.end) == (p, None) => Some(Err(e.refusal)),
+        (Bounds::Sized(end), Some(BlockEntry::Refused(e))) if (e.bit, e.end) == (p, Some(end)) => Some(Err(e.refusal)),
+        (Bounds::Sized(end), Some(BlockEntry::Resource(e))) if (e.bit, e.end) == (p, end) => {
             let content = vec![e.content_start as u64, e.content_end as u64];
             Some(Ok((e.content_start, [content, e.header.to_words().to_vec()].concat())))
         }

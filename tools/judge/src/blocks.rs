@@ -3,7 +3,7 @@ use crate::block::Add;
 use crate::case::{Call, Case};
 use crate::cases::{self, Rng};
 use crate::compare::Counts;
-use crate::model::{self, Frame};
+use crate::model::{self, Bounds};
 use crate::ours::{Kind, Window};
 use tetra_mac::block::{self, LengthIndication};
 use tetra_mac::{MacResource, Record};
@@ -155,7 +155,7 @@ fn step(bytes: &[u8], p: usize, n: usize, c: &mut Counts) {
 fn walk(g: &mut Rng, bytes: &[u8], n: usize, c: &mut Counts) {
     let block = model::bits(bytes, n);
     let mut p = 0;
-    while let Frame::Sized(end) = model::frame(&block, p) {
+    while let Bounds::Sized(end) = model::bounds(&block, p) {
         step(bytes, p, n, c);
         p = end;
     }

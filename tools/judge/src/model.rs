@@ -6,7 +6,7 @@ pub const MOST_BITS: usize = 488;
 
 /// What begins at a bit.
 #[derive(Clone, Copy, Debug, PartialEq, Eq)]
-pub enum Frame {
+pub enum Bounds {
     End,
     Null,
     /// A PDU, and the bit after it.
@@ -32,42 +32,42 @@ fn number(bits: &[bool]) -> usize {
 }
 
 /// "Type 2 (0), fill 1, position of grant 1, encryption 2, random access 1, length 6, address type 3: 16 bits."
-pub fn frame(block: &[bool], p: usize) -> Frame {
+pub fn bounds(block: &[bool], p: usize) -> Bounds {
     let n = block.len();
     let own = &block[p..];
     // "fewer than 16 bits left: end"
     if own.len() < 16 {
-        return Frame::End;
+        return Bounds::End;
     }
     let (pdu_type, length, address_type) = (number(&own[..2]), number(&own[7..13]), number(&own[13..16]));
     // "type not 0: refused 4, end"; "the block's 4 .. give 0"
     if pdu_type != 0 {
-        return Frame::Unsized(4, 0);
+        return Bounds::Unsized(4, 0);
     }
     // "null address: null entry, end, its length unused"
     if address_type == 0 {
-        return Frame::Null;
+        return Bounds::Null;
     }
     let end = p + 8 * length;
     match length {
         // "length 62 or 63: the PDU runs to N"
-        62 | 63 => Frame::Sized(n),
+        62 | 63 => Bounds::Sized(n),
         // "length 0 or 1: refused 8, end"; "the block's .. 8 .. give .. 7"
-        0 | 1 => Frame::Unsized(8, 7),
+        0 | 1 => Bounds::Unsized(8, 7),
         // "otherwise the end is p + 8 × length; if that passes N by under 8 bits it is N; by 8 or more, refused 8, end"
-        _ if end <= n => Frame::Sized(end),
-        _ if end < n + 8 => Frame::Sized(n),
-        _ => Frame::Unsized(8, 7),
+        _ if end <= n => Bounds::Sized(end),
+        _ if end < n + 8 => Bounds::Sized(n),
+        _ => Bounds::Unsized(8, 7),
     }
 }
 
 /// The bits from p to the PDU's end: "16 for null, to N where a refusal gives no end".
 pub fn extent(block: &[bool], p: usize) -> usize {
-    match frame(block, p) {
-        Frame::End => p,
-        Frame::Null => p + 16,
-        Frame::Sized(end) => end,
-        Frame::Unsized(..) => block.len(),
+    match bounds(block, p) {
+        Bounds::End => p,
+        Bounds::Null => p + 16,
+        Bounds::Sized(end) => end,
+        Bounds::Unsized(..) => block.len(),
     }
 }
 
@@ -75,17 +75,17 @@ pub fn extent(block: &[bool], p: usize) -> usize {
 pub fn walk(block: &[bool]) -> (Vec<usize>, usize) {
     let (mut all, mut p) = (vec![], 0);
     loop {
-        match frame(block, p) {
-            Frame::End => return (all, p),
-            Frame::Null => {
+        match bounds(block, p) {
+            Bounds::End => return (all, p),
+            Bounds::Null => {
                 all.push(p);
                 return (all, p + 16);
             }
-            Frame::Unsized(..) => {
+            Bounds::Unsized(..) => {
                 all.push(p);
                 return (all, p);
             }
-            Frame::Sized(end) => {
+            Bounds::Sized(end) => {
                 all.push(p);
                 p = end;
             }

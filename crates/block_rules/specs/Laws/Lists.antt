@@ -69,22 +69,22 @@ before-some (x ∷ xs) ys c e = rw (before-some xs ys c e)
 pub before-fill : (c : List Bool) (n : ℕ) → beforeLastOne (c ++ (true ∷ replicate n false)) ≡ some c
 before-fill c n = before-some c (true ∷ replicate n false) [] (unfold beforeLastOne extend in rw (no-one n)) ∙ ap some (append-nil c)
 
--- what stands before the last 1 is the front of the list
-Front : List Bool → Option (List Bool) → Type 0
-Front bits none = Unit {0}
-Front bits (some c) = (length c ≤ length bits) × (take (length c) bits ≡ c)
+-- what stands before the last 1 is what the list starts with
+StartsWith : List Bool → Option (List Bool) → Type 0
+StartsWith bits none = Unit {0}
+StartsWith bits (some c) = (length c ≤ length bits) × (take (length c) bits ≡ c)
 
-front-extend : (x : Bool) (xs : List Bool) (o : Option (List Bool)) → Front xs o → Front (x ∷ xs) (extend x o)
-unfolding Front extend
-front-extend x xs (some c) f = (omega (arith, f .0), ap (λ l. x ∷ l) (f .1))
-front-extend true xs none f = (omega arith, refl)
-front-extend false xs none f = tt
+starts-extend : (x : Bool) (xs : List Bool) (o : Option (List Bool)) → StartsWith xs o → StartsWith (x ∷ xs) (extend x o)
+unfolding StartsWith extend
+starts-extend x xs (some c) f = (omega (arith, f .0), ap (λ l. x ∷ l) (f .1))
+starts-extend true xs none f = (omega arith, refl)
+starts-extend false xs none f = tt
 
-front-of : (bits : List Bool) → Front bits (beforeLastOne bits)
-unfolding Front beforeLastOne
-front-of [] = tt
-front-of (x ∷ xs) = front-extend x xs (beforeLastOne xs) (front-of xs)
+starts-of : (bits : List Bool) → StartsWith bits (beforeLastOne bits)
+unfolding StartsWith beforeLastOne
+starts-of [] = tt
+starts-of (x ∷ xs) = starts-extend x xs (beforeLastOne xs) (starts-of xs)
 
-pub front : (bits c : List Bool) → beforeLastOne bits ≡ some c → (length c ≤ length bits) × (take (length c) bits ≡ c)
-unfolding Front
-front bits c e = rw e at (front-of bits)
+pub before-starts : (bits c : List Bool) → beforeLastOne bits ≡ some c → (length c ≤ length bits) × (take (length c) bits ≡ c)
+unfolding StartsWith
+before-starts bits c e = rw e at (starts-of bits)

@@ -15,7 +15,7 @@ use Rattle.block_rules.specs.Extent.{extent}
 use Rattle.block_rules.specs.Codec.{HeaderReader, Inside}
 use Rattle.block_rules.specs.Read.{Reading, beforeLastOne, behindHeader, readOwn, readPdu}
 use Rattle.block_rules.specs.Walk.{Pdu, Entry, ownSize, sizeIn, pduOf, firstPdu, goOn}
-use Rattle.block_rules.specs.Laws.Lists.{front}
+use Rattle.block_rules.specs.Laws.Lists.{before-starts}
 use Rattle.block_rules.specs.Laws.Extents.{extent-null, extent-sized}
 use Rattle.block_rules.specs.Laws.Walks.{from, walk-ind}
 use Rattle.block_rules.specs.Laws.Covering.{Each, each-nil, each-cons}
@@ -75,7 +75,7 @@ module _ {H : Type 0} where
   parts-behind bits h m true k = go (beforeLastOne (drop m bits)) refl
     where
       go : (o : Option (List Bool)) → beforeLastOne (drop m bits) ≡ o → Parts (length bits) bits (behindHeader h m true (drop m bits))
-      go (some c) e = let x = front (drop m bits) c e in rw (e, behindHeader) (omega (arith, x .0, length-drop m bits), x .1)
+      go (some c) e = let x = before-starts (drop m bits) c e in rw (e, behindHeader) (omega (arith, x .0, length-drop m bits), x .1)
       go none e = rw (e, behindHeader) tt
 
   module _ (R : HeaderReader H) (inside : Inside R) where
