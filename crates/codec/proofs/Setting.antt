@@ -1,5 +1,5 @@
 -- A length and a fill flag that are set fit the front.
-use Prim.Native.Nat.{ℕ, _+_, _-_, _*_, _%_, _^_, _≤_, _<_}
+use Prim.Native.Nat.{ℕ, _+_, _-_, _*_, _%_, _^_, _<_}
 use mathlib.Core.Path.{_≡_}
 use mathlib.Core.Bool.{Bool}
 use native.Mathlib.Nat.{lt-of-lt-of-le, mod-eq-of-lt}

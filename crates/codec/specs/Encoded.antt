@@ -22,13 +22,13 @@ use Rattle.codec.specs.declared.encoded.EncodedHeader.{EncodedHeader}
 
 -- ---- pieces, one after the other
 
-abbrev pub bitsOf : List Piece → List Bool
-bitsOf [] = []
-bitsOf (p ∷ ps) = pieceBits p ++ bitsOf ps
+abbrev pub piecesBits : List Piece → List Bool
+piecesBits [] = []
+piecesBits (p ∷ ps) = pieceBits p ++ piecesBits ps
 
-abbrev pub size : List Piece → ℕ
-size [] = 0
-size (p ∷ ps) = p .bits + size ps
+abbrev pub piecesSize : List Piece → ℕ
+piecesSize [] = 0
+piecesSize (p ∷ ps) = p .bits + piecesSize ps
 
 -- each is less than a word, and is the low bits of its number
 abbrev pub AllFew : List Piece → Type 0
@@ -48,9 +48,9 @@ pub record Sound (k : ℕ) (ps : List Piece) : Type 0 where
 -- case
 pub record Encodes (j n : ℕ) (xs : List Bool) (k : ℕ) (ps : List Piece) : Type 0 where
   pub number : k ≡ j
-  pub bitCount : size ps ≡ n
+  pub bitCount : piecesSize ps ≡ n
   pub sound : Sound k ps
-  pub bits : j ≡ 0 → bitsOf ps ≡ xs
+  pub bits : j ≡ 0 → piecesBits ps ≡ xs
 
 -- of one piece
 abbrev pub EncodesOne : (j n : ℕ) → List Bool → Encoded → Type 0
@@ -73,7 +73,7 @@ abbrev pub sizeOf : EncodedHeader → ℕ
 sizeOf e = e .front .bits + e .rest .bits + (e .tail .first .bits + e .tail .second .bits)
 
 unfoldable pub bitsWith : EncodedHeader → ℕ → Bool → List Bool
-bitsWith e l f = bitsOf (piecesWith e l f)
+bitsWith e l f = piecesBits (piecesWith e l f)
 
 abbrev pub Few : EncodedHeader → Type 0
 Few e = AllFew (piecesWith e 0 false)
@@ -154,7 +154,7 @@ one-holds {e = e} x z = record {
 
 -- what is encoded is written as what it is the encoding of
 pub encoded-written : (s : List ℕ) (c : Cursor) {j n k : ℕ} {xs : List Bool} {ps : List Piece} {r : Moved} {t : List ℕ} → Encodes j n xs k ps
-    → (r ≡ writeAt s c k (bitsOf ps)) × (t ≡ writtenAt s c k (bitsOf ps)) → (r ≡ writeAt s c j xs) × (t ≡ writtenAt s c j xs)
+    → (r ≡ writeAt s c k (piecesBits ps)) × (t ≡ writtenAt s c k (piecesBits ps)) → (r ≡ writeAt s c j xs) × (t ≡ writtenAt s c j xs)
 encoded-written s c x y = let w = write-same s c _ _ _ _ (x .number) (x .bits) in
     (y .0 ∙ w .0, y .1 ∙ w .1)
 

@@ -1,4 +1,4 @@
--- A value against the width of its field: "3 value wider than its field".
+-- A value against the width of its field: number 3, "value wider than its field".
 use Prim.Native.Nat.{ℕ, _^_, _<_}
 use mathlib.Core.Path.{_≡_}
 use lib.Dec.{ltb}

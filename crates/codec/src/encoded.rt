@@ -6,12 +6,11 @@ use tetra_core::bitbuffer::Cursor;
 use tetra_core::bitbuffer::Moved;
 ghost use mathlib.Core.List.{[], _∷_};
 ghost use mathlib.Core.Path.{_≡_};
-ghost use Prim.Native.Nat.{_+_, _*_, _≤_, _<_};
 ghost use lib.ListN.{length};
 ghost use Rattle.bits.specs.Bits.{putBits};
 ghost use Rattle.tetra_core.specs.BitBuffer.{bytesAfter};
 ghost use Rattle.codec.specs.Write.{writeAt, writtenAt};
-ghost use Rattle.codec.specs.Encoded.{bitsOf, Few, Fit, Sound, noTail, frontWith, piecesWith, sizeOf, bitsWith, Placed, PuttableHeader, wholeOf};
+ghost use Rattle.codec.specs.Encoded.{piecesBits, Few, Fit, Sound, noTail, frontWith, piecesWith, sizeOf, bitsWith, Placed, PuttableHeader, wholeOf};
 
 // What one piece holds: why it is not written, or 0, and its bits. Of what is refused only the size is looked at.
 pub struct Encoded {
@@ -54,7 +53,7 @@ pub fn refused(number: u8, bits: usize) -> Encoded
 // Writes what one piece holds at the cursor.
 pub fn write(s: &mut [u8], c: Cursor, e: Encoded) -> Moved
     requires { ⌜ Sound (e .number) (e .piece ∷ []) ⌝ }
-    ensures { λ r. ⌜ (r ≡ writeAt (now (s .entry)) c (e .number) (bitsOf (e .piece ∷ []))) × (now (s .exit) ≡ writtenAt (now (s .entry)) c (e .number) (bitsOf (e .piece ∷ []))) ⌝ }
+    ensures { λ r. ⌜ (r ≡ writeAt (now (s .entry)) c (e .number) (piecesBits (e .piece ∷ []))) × (now (s .exit) ≡ writtenAt (now (s .entry)) c (e .number) (piecesBits (e .piece ∷ []))) ⌝ }
 {
     let p = e.piece;
     let size = p.bits;

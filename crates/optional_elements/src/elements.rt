@@ -158,7 +158,7 @@ fn elements_piece(e: Elements) -> Piece
     piece::joined(power_control::power_piece(power), behind)
 }
 
-// The elements as a part of a header that is written.
+// The elements on their way out.
 pub fn elements_encoded(e: Elements) -> Encoded
     ensures { λ r. ⌜ EncodesOne (elementsRefusal e) (elementsLen e) (elementsBits e) r ⌝ }
 {

@@ -4,7 +4,6 @@ use mathlib.Core.Path.{_≡_, refl, sym, ap, _∙_}
 use mathlib.Core.List.{[], _++_}
 use denote.Ref.{now}
 use lib.ListN.{length}
-use Rattle.bits.specs.Bits.{putBits}
 use Rattle.bits.specs.Laws.Values.{bits-zero}
 use Rattle.bits.specs.Laws.Writes.{length-putBits, putBits-nil}
 use Rattle.tetra_core.specs.Laws.Windows.{bytes-refused, bytes-done}
