@@ -1,5 +1,6 @@
 -- specs/Examples.antt, computed.
 use mathlib.Core.Path.{_≡_, refl}
+use Rattle.text.specs.Decimal.{decimalBy, decimal}
 use Rattle.bits.specs.Bits.{odd, val, bitsOfNat, bitsOf, bitsAt}
 use Rattle.codec.specs.Reader.{fieldAt}
 use Rattle.mac_resource.specs.Address.{addrTypeOf, readAddress, one}
@@ -15,11 +16,13 @@ use Rattle.block_rules.specs.Extent.{field, countedExtent, resourceExtent, exte
 use Rattle.block_rules.specs.Read.{extend, beforeLastOne, behindHeader, readOwn, readPdu}
 use Rattle.block_rules.specs.Walk.{goodBlock, stepOf, pduOf, firstPdu, stepAt, step, goOn, follow, walkBy, walkFrom}
 use Rattle.mac_block.specs.Answers.{sizedEntry, entryOf}
-use Rattle.block_walk.specs.declared.Position.{Position}
 use Rattle.block_walk.specs.Positions.{walkOn, restFrom}
-use Rattle.block_lines.specs.Line.{resourceLine, entryLine, linesFrom, restBits}
-use Rattle.block_lines.specs.Examples.{bytes-01, lines-01}
+use Rattle.block_lines.specs.Address.{secondText}
+use Rattle.block_lines.specs.Line.{resourceLine, entryLine, lineText, linesFrom}
+use Rattle.block_lines.specs.Listing.{linesText}
+use Rattle.block_lines.specs.File.{fileText}
+use Rattle.block_lines.specs.Examples.{file-01, text-01}
 
-pub listing-01 : (linesFrom bytes-01 124 (Position.At 0) ≡ lines-01) × (restBits bytes-01 124 ≡ 60)
-unfolding odd val bitsOfNat bitsOf bitsAt fieldAt addrTypeOf readAddress one readBehindType readFixed optional readPower readGranting readAllocation readElements readMacResource field countedExtent resourceExtent extentOf extent extend beforeLastOne behindHeader readOwn readPdu goodBlock stepOf pduOf firstPdu stepAt step goOn follow walkBy walkFrom sizedEntry entryOf walkOn restFrom resourceLine entryLine linesFrom readGrantAndAllocation
-listing-01 = (refl, refl)
+pub listing-01 : fileText file-01 ≡ text-01
+unfolding odd val bitsOfNat bitsOf bitsAt fieldAt addrTypeOf readAddress one readBehindType readFixed optional readPower readGranting readAllocation readElements readMacResource field countedExtent resourceExtent extentOf extent extend beforeLastOne behindHeader readOwn readPdu goodBlock stepOf pduOf firstPdu stepAt step goOn follow walkBy walkFrom sizedEntry entryOf walkOn restFrom resourceLine entryLine linesFrom readGrantAndAllocation decimalBy decimal secondText lineText linesText
+listing-01 = refl

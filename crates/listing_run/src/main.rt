@@ -1,7 +1,9 @@
 // Lists the block of each file that an argument names, then writes blocks of 488 and 489 bits. Held to the file stdout.
 use bits::word;
 use block_lines::file;
-use block_lines::print;
+use block_lines::file::MOST_BYTES;
+use block_lines::listing;
+use block_lines::listing::MOST_TEXT;
 use block_rules::MOST_BITS;
 use block_rules::to_add::LengthIndication;
 use block_rules::to_add::ResourceToAdd;
@@ -31,8 +33,12 @@ fn list_named(name: &[u8]) {
         os::fail(name);
         return;
     }
-    file::list_from(fd);
+    let mut input = [0u8; MOST_BYTES];
+    let got = file::read_file(fd, &mut input);
     libc::close(fd);
+    let mut out = [0u8; MOST_TEXT];
+    let length = file::list_file(&input[..got], &mut out);
+    text(&out[..length]);
 }
 
 fn list_argument(i: usize) {
@@ -48,6 +54,12 @@ fn list_arguments() {
         list_argument(i);
         i += 1;
     }
+}
+
+fn list(block: &[u8]) {
+    let mut out = [0u8; MOST_TEXT];
+    let length = listing::list_block(block, MOST_BITS, &mut out);
+    text(&out[..length]);
 }
 
 // A header of 43 bits: SSI 1, no elements.
@@ -87,7 +99,7 @@ fn add_one(content_bits: usize) {
             text(b" octets ");
             number(length_of(block[0], block[1]));
             text(b"\n");
-            print::list(&block, MOST_BITS);
+            list(&block);
         }
         Outcome::Refused(n) => {
             text(b" refused ");

@@ -1,0 +1,4 @@
+pub mod Put
+pub mod Ascii
+pub mod Decimal
+pub mod Laws
