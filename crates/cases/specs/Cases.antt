@@ -55,8 +55,8 @@ use Rattle.mac_resource.specs.MacResource.{nullPdu, macResourceAt, macResourceW
 use Rattle.block_rules.specs.declared.to_add.LengthIndication.{LengthIndication}
 use Rattle.block_rules.specs.Read.{Reading}
 use Rattle.block_rules.specs.Walk.{Pdu, Entry, Walk, step, walk}
-use Rattle.block_rules.specs.Writer.{Writer, finishTo, addOf, addTo}
-use Rattle.block_rules.specs.Run.{Call, start, run}
+use Rattle.block_rules.specs.Writer.{Writer, writerAt, finishTo, addOf, addTo}
+use Rattle.block_rules.specs.Run.{Call, run}
 use Rattle.block_rules.specs.Downlink.{DownlinkHeader, downlinkReader, HeaderToAdd, resourceToAdd, downlinkWriter}
 use Rattle.mac_block.specs.declared.reader.BlockEntry.{BlockEntry}
 use Rattle.mac_block.specs.declared.reader.PduEnd.{PduEnd}
@@ -115,11 +115,18 @@ answers n [] w = []
 answers n (Call.add a ∷ cs) w = addAnswer downlinkWriter n w a ∷ answers n cs (addTo downlinkWriter n w a)
 answers n (Call.finish ∷ cs) w = finishAnswer n w ∷ answers n cs (finishTo n w)
 
--- a block of n bits in these bytes, after these calls from bit 0 on
-unfoldable pub block : (n : ℕ) → List ℕ → List (Call HeaderToAdd) → Answer
-block n bytes calls =
-    let left = run downlinkWriter n calls (start bytes) in
-    Answer.Block (answers n calls (start bytes)) (left .bytes) (walk downlinkReader (left .bytes) n)
+-- a block of n bits in these bytes, after these calls from bit p on, and from bit 0 on
+unfoldable pub blockFrom : (p n : ℕ) → List ℕ → List (Call HeaderToAdd) → Answer
+blockFrom p n bytes calls =
+    let left = run downlinkWriter n calls (writerAt bytes p) in
+    Answer.Block (answers n calls (writerAt bytes p)) (left .bytes) (walk downlinkReader (left .bytes) n)
+
+abbrev pub block : (n : ℕ) → List ℕ → List (Call HeaderToAdd) → Answer
+block n bytes calls = blockFrom 0 n bytes calls
+
+-- the step from bit p of a block of n bits in these bytes
+abbrev pub stepped : List ℕ → (n p : ℕ) → Answer
+stepped bytes n p = Answer.Step (stepAnswer (step downlinkReader bytes n p))
 
 -- a header with no elements
 abbrev pub plain : (length : ℕ) → (fill : Bool) → (mode : ℕ) → DownlinkAddress → MacResource
@@ -141,8 +148,11 @@ abbrev pub ssi1 : (length : ℕ) → (fill : Bool) → MacResource
 ssi1 l f = plain l f 0 (DownlinkAddress.Ssi SsiType.Ssi 1)
 
 -- an add of k bits of content, all ones, out of 60 bytes
+abbrev pub addsHeader : MacResource → LengthIndication → ℕ → Call HeaderToAdd
+addsHeader h i k = Call.add (addOf (resourceToAdd h i) (replicate 60 0xff) k)
+
 abbrev pub adds : LengthIndication → ℕ → Call HeaderToAdd
-adds i k = Call.add (addOf (resourceToAdd (ssi1 0 false) i) (replicate 60 0xff) k)
+adds i k = addsHeader (ssi1 0 false) i k
 
 abbrev pub counts : ℕ → Call HeaderToAdd
 counts k = adds LengthIndication.Counted k
@@ -158,11 +168,24 @@ refused p j = record { bit = p; answer = Outcome.Refused j }
 abbrev pub pdu : (bit s l : ℕ) → (flag : Bool) → (k f : ℕ) → Entry DownlinkHeader
 pdu p s l flag k f = record { bit = p; pdu = Pdu.sized s (Reading.read (ssi1 l flag) 43 (replicate k true) f) }
 
+abbrev pub nullOf : (length bit : ℕ) → Entry DownlinkHeader
+nullOf l p = record { bit = p; pdu = Pdu.null l }
+
 abbrev pub null : (bit : ℕ) → Entry DownlinkHeader
-null p = record { bit = p; pdu = Pdu.null 2 }
+null p = nullOf 2 p
 
 abbrev pub walked : List (Entry DownlinkHeader) → (rest : ℕ) → Walk DownlinkHeader
 walked es p = record { entries = es; restAt = p }
+
+-- a step's answer: a PDU that is read, with its content's range, and one that is refused
+abbrev pub readAt : (bit end : ℕ) → MacResource → (from to : ℕ) → Answer
+readAt p e h a b =
+    Answer.Step
+    (StepAnswer.Entry (BlockEntry.Resource (record { bit = p; end = e; header = h; «content_start» = a; «content_end» = b })))
+
+abbrev pub refusedAt : (bit : ℕ) → PduEnd → (number offset : ℕ) → Answer
+refusedAt p e j o =
+    Answer.Step (StepAnswer.Entry (BlockEntry.Refused (record { bit = p; end = e; refusal = record { number = j; offset = o } })))
 
 -- the bytes of a PDU of 34 octets less 4 bits: its first two, and ones behind the header
 abbrev pub ones : ℕ → ℕ → List ℕ
@@ -337,15 +360,12 @@ abbrev pub case-10 : Row
 case-10 =
     record {
       computed =
-          Answer.Step (stepAnswer (step downlinkReader (ones 0x01 0x11) 268 0))
-          ∷ Answer.Step (stepAnswer (step downlinkReader (ones 0x01 0x19) 268 0))
+          stepped (ones 0x01 0x11) 268 0
+          ∷ stepped (ones 0x01 0x19) 268 0
           ∷ [];
       stated =
-          Answer.Step
-          (StepAnswer.Entry
-          (BlockEntry.Resource
-          (record { bit = 0; end = 268; header = ssi1 34 false; «content_start» = 43; «content_end» = 268 })))
-          ∷ Answer.Step (StepAnswer.Entry (BlockEntry.Refused (record { bit = 0; end = PduEnd.Unknown; refusal = record { number = 8; offset = 7 } })))
+          readAt 0 268 (ssi1 34 false) 43 268
+          ∷ refusedAt 0 PduEnd.Unknown 8 7
           ∷ [];
     }
 
@@ -435,13 +455,13 @@ refusals =
           ∷ resourceWritten (plain 2 true 0 DownlinkAddress.NullPdu)
           ∷ resourceWritten (plain 6 false 1 (DownlinkAddress.Ssi SsiType.Ssi 1))
           ∷ Answer.Wrote (channelAllocationWrite (replicate 4 0) (window 0 32) patternless) (channelAllocationWritten (replicate 4 0) (window 0 32) patternless)
-          ∷ Answer.Step (stepAnswer (step downlinkReader (0x20 ∷ 0x31 ∷ 0x00 ∷ 0x00 ∷ 0x01 ∷ 0x00 ∷ []) 48 0))
+          ∷ stepped (0x20 ∷ 0x31 ∷ 0x00 ∷ 0x00 ∷ 0x01 ∷ 0x00 ∷ []) 48 0
           ∷ Answer.OpenedWindow (opened 1 9)
           ∷ Answer.Wrote (slotgrantWrite (0xff ∷ []) (window 0 8) delay14) (slotgrantWritten (0xff ∷ []) (window 0 8) delay14)
           ∷ [];
       stated =
           Answer.ReadField (record { cursor = window 5 8; answer = BitsAnswer.Refused (record { number = 1; offset = 0 }) })
-          ∷ Answer.Block (refused 0 2 ∷ []) (replicate 34 0) (walked (record { bit = 0; pdu = Pdu.null 0 } ∷ []) 16)
+          ∷ Answer.Block (refused 0 2 ∷ []) (replicate 34 0) (walked (nullOf 0 0 ∷ []) 16)
           ∷ notWritten 3 48 (replicate 6 0)
           ∷ Answer.ReadResource (record { cursor = window 0 16; answer = MacResourceAnswer.Refused (record { number = 4; offset = 0 }) })
           ∷ Answer.ReadAllocation (record { cursor = window 0 32; answer = ChannelAllocationAnswer.Refused (record { number = 5; offset = 22 }) })
@@ -449,7 +469,7 @@ refusals =
           ∷ notWritten 9 48 (replicate 6 0)
           ∷ notWritten 10 48 (replicate 6 0)
           ∷ notWritten 11 32 (replicate 4 0)
-          ∷ Answer.Step (StepAnswer.Entry (BlockEntry.Refused (record { bit = 0; end = PduEnd.At 48; refusal = record { number = 12; offset = 43 } })))
+          ∷ refusedAt 0 (PduEnd.At 48) 12 43
           ∷ Answer.OpenedWindow (Opened.Refused (record { number = 13; offset = 0 }))
           ∷ notWritten 14 8 (0xff ∷ [])
           ∷ [];
