@@ -1,5 +1,5 @@
--- The rules of document 01's "Block" at their edges: a row for each rule, with what the definitions give and what the paper says. A definition
--- that is changed there could keep every theorem and every case of specs/Cases.antt. `proofs/Cases.antt` computes every row.
+-- The rules of document 01's "Block" at their edges, in the form of specs/Cases.antt: a row for each rule, with the sentence that it holds.
+-- docs/TRUST.md has the wrong definitions that these rows refuse. `proofs/Cases.antt` computes every row.
 use mathlib.Core.Bool.{true, false}
 use mathlib.Core.List.{List, [], _∷_, _++_}
 use Prim.Native.Nat.{ℕ}
@@ -14,10 +14,10 @@ use Rattle.block_rules.specs.Walk.{Pdu, Entry}
 use Rattle.block_rules.specs.Writer.{addOf}
 use Rattle.block_rules.specs.Run.{Call}
 use Rattle.block_rules.specs.Downlink.{DownlinkHeader, HeaderToAdd, resourceToAdd}
-use Rattle.mac_block.specs.declared.reader.BlockEntry.{BlockEntry}
 use Rattle.mac_block.specs.declared.reader.PduEnd.{PduEnd}
 use Rattle.mac_block.specs.declared.reader.StepAnswer.{StepAnswer}
-use Rattle.cases.specs.Cases.{Answer, Row, blockFrom, block, stepped, plain, ssi1, addsHeader, adds, counts, done, refused, pdu, nullOf, null, walked, readAt, refusedAt}
+use Rattle.mac_block.specs.declared.writer.Written.{Written}
+use Rattle.cases.specs.Cases.{Answer, check, Row, blockFrom, block, stepped, plain, ssi1, addsHeader, adds, counts, done, refused, entry, pdu, null, walked, readAt, nullAt, refusedAt, noStep}
 
 -- ---- two PDUs: the first of 48 bits, so that the second begins at bit 48
 
@@ -31,153 +31,95 @@ first = pdu 0 48 6 false 5 0
 abbrev pub second : ℕ → ℕ → List ℕ
 second a b = behind (a ∷ b ∷ 0x00 ∷ 0x00 ∷ 0x01 ∷ 0x1f ∷ 0x80 ∷ [])
 
+-- an add that nothing but its place refuses, and a finish
+abbrev pub addAndFinish : List (Call HeaderToAdd)
+addAndFinish = counts 0 ∷ Call.finish ∷ []
+
 -- ---- the reader
 
 -- "length 0 or 1: refused 8, end; otherwise the end is p + 8 × length; if that passes N by under 8 bits it is N; by 8 or more, refused 8, end."
--- Lengths 0, 1, 2, of which the last ends in the header; and 7, which passes N by 7 and by 8
+-- Lengths 0, 1 and 2, the last with its end in the header; then 7, which passes N by 7 and by 8
 abbrev pub lengths : Row
 lengths =
-    record {
-      computed =
-          stepped (second 0x00 0x01) 104 48
-          ∷ stepped (second 0x00 0x09) 104 48
-          ∷ stepped (second 0x00 0x11) 104 48
-          ∷ stepped (second 0x00 0x39) 97 48
-          ∷ stepped (second 0x00 0x39) 96 48
-          ∷ [];
-      stated =
-          refusedAt 48 PduEnd.Unknown 8 7
-          ∷ refusedAt 48 PduEnd.Unknown 8 7
-          ∷ refusedAt 48 (PduEnd.At 64) 1 16
-          ∷ readAt 48 97 (ssi1 7 false) 91 97
-          ∷ refusedAt 48 PduEnd.Unknown 8 7
-          ∷ [];
-    }
+    check (stepped (second 0x00 0x01) 104 48) (refusedAt 48 PduEnd.Unknown 8 7)
+    ∷ check (stepped (second 0x00 0x09) 104 48) (refusedAt 48 PduEnd.Unknown 8 7)
+    ∷ check (stepped (second 0x00 0x11) 104 48) (refusedAt 48 (PduEnd.At 64) 1 16)
+    ∷ check (stepped (second 0x00 0x39) 97 48) (readAt 48 97 (ssi1 7 false) 91 97)
+    ∷ check (stepped (second 0x00 0x39) 96 48) (refusedAt 48 PduEnd.Unknown 8 7)
+    ∷ []
 
 -- "length 62 or 63: the PDU runs to N"; "A marked PDU takes the rest of the block."
+abbrev pub marked : (second : ℕ) → List ℕ
+marked b = 0x21 ∷ b ∷ 0x00 ∷ 0x00 ∷ 0x01 ∷ 0x1f ∷ 0x80 ∷ 0x0f ∷ []
+
 abbrev pub marks : Row
 marks =
-    record {
-      computed =
-          stepped (second 0x01 0xf1) 97 48
-          ∷ stepped (second 0x01 0xf9) 97 48
-          ∷ block 60 (replicate 8 0xff) (adds LengthIndication.SecondSlotStolen 5 ∷ [])
-          ∷ block 60 (replicate 8 0xff) (adds LengthIndication.FragStart 5 ∷ [])
-          ∷ [];
-      stated =
-          readAt 48 97 (ssi1 62 false) 91 97
-          ∷ readAt 48 97 (ssi1 63 false) 91 97
-          ∷ Answer.Block (done 60 ∷ []) (0x21 ∷ 0xf1 ∷ 0x00 ∷ 0x00 ∷ 0x01 ∷ 0x1f ∷ 0x80 ∷ 0x0f ∷ []) (walked (pdu 0 60 62 true 5 12 ∷ []) 60)
-          ∷ Answer.Block (done 60 ∷ []) (0x21 ∷ 0xf9 ∷ 0x00 ∷ 0x00 ∷ 0x01 ∷ 0x1f ∷ 0x80 ∷ 0x0f ∷ []) (walked (pdu 0 60 63 true 5 12 ∷ []) 60)
-          ∷ [];
-    }
+    check (stepped (second 0x01 0xf1) 97 48) (readAt 48 97 (ssi1 62 false) 91 97)
+    ∷ check (stepped (second 0x01 0xf9) 97 48) (readAt 48 97 (ssi1 63 false) 91 97)
+    ∷ check (block 60 (replicate 8 0xff) (adds LengthIndication.SecondSlotStolen 5 ∷ []))
+    (Answer.Block (done 60 ∷ []) (marked 0xf1) (walked (pdu 0 60 62 true 5 12 ∷ []) 60))
+    ∷ check (block 60 (replicate 8 0xff) (adds LengthIndication.FragStart 5 ∷ []))
+    (Answer.Block (done 60 ∷ []) (marked 0xf9) (walked (pdu 0 60 63 true 5 12 ∷ []) 60))
+    ∷ []
 
 -- "null address: null entry, end, its length unused": lengths 0, 1 and 63
 abbrev pub nulls : Row
 nulls =
-    record {
-      computed =
-          stepped (second 0x00 0x00) 104 48
-          ∷ stepped (second 0x00 0x08) 104 48
-          ∷ stepped (second 0x01 0xf8) 104 48
-          ∷ block 104 (second 0x01 0xf8) []
-          ∷ [];
-      stated =
-          Answer.Step (StepAnswer.Entry (BlockEntry.Null 48))
-          ∷ Answer.Step (StepAnswer.Entry (BlockEntry.Null 48))
-          ∷ Answer.Step (StepAnswer.Entry (BlockEntry.Null 48))
-          ∷ Answer.Block [] (second 0x01 0xf8) (walked (first ∷ nullOf 63 48 ∷ []) 64)
-          ∷ [];
-    }
+    check (stepped (second 0x00 0x00) 104 48) (nullAt 48)
+    ∷ check (stepped (second 0x00 0x08) 104 48) (nullAt 48)
+    ∷ check (stepped (second 0x01 0xf8) 104 48) (nullAt 48)
+    ∷ check (block 104 (second 0x01 0xf8) []) (Answer.Block [] (second 0x01 0xf8) (walked (first ∷ entry 48 (Pdu.null 63) ∷ []) 64))
+    ∷ []
 
--- "type not 0: refused 4, end"; "the block's 4, 8 and 12 give 0, 7 and the header's end." Types 1, 2 and 3; the second with the length 0 and the
--- null address
+-- "type not 0: refused 4, end"; "the block's 4, 8 and 12 give 0, 7 and the header's end." Types 1, 2 and 3, the second with length 0 and the null
+-- address
 abbrev pub types : Row
 types =
-    record {
-      computed =
-          stepped (second 0x40 0x31) 104 48
-          ∷ stepped (second 0x80 0x00) 104 48
-          ∷ stepped (second 0xc0 0x31) 104 48
-          ∷ block 104 (second 0xc0 0x31) []
-          ∷ [];
-      stated =
-          refusedAt 48 PduEnd.Unknown 4 0
-          ∷ refusedAt 48 PduEnd.Unknown 4 0
-          ∷ refusedAt 48 PduEnd.Unknown 4 0
-          ∷ Answer.Block [] (second 0xc0 0x31) (walked (first ∷ record { bit = 48; pdu = Pdu.unsized 4 0 } ∷ []) 48)
-          ∷ [];
-    }
+    check (stepped (second 0x40 0x31) 104 48) (refusedAt 48 PduEnd.Unknown 4 0)
+    ∷ check (stepped (second 0x80 0x00) 104 48) (refusedAt 48 PduEnd.Unknown 4 0)
+    ∷ check (stepped (second 0xc0 0x31) 104 48) (refusedAt 48 PduEnd.Unknown 4 0)
+    ∷ check (block 104 (second 0xc0 0x31) []) (Answer.Block [] (second 0xc0 0x31) (walked (first ∷ entry 48 (Pdu.unsized 4 0) ∷ []) 48))
+    ∷ []
 
--- "if it or its fill (12) is refused, the walk goes on at the PDU's end": fill set and five zeros behind the header, then a null PDU; and a header
--- of 29 bits that ends its PDU, whose fill is refused though a 1 follows in the byte, and which has that 1 for its fill in a block of 30 bits
+-- "if it or its fill (12) is refused, the walk goes on at the PDU's end": fill set and five zeros behind the header, then a null PDU. And a header
+-- of 29 bits that is all of its PDU; the 1 behind it is fill only in a block of 30 bits
 abbrev pub unfilled : List ℕ
 unfilled = behind (0x20 ∷ 0x31 ∷ 0x00 ∷ 0x00 ∷ 0x01 ∷ 0x00 ∷ 0x00 ∷ 0x10 ∷ [])
 
 abbrev pub fills : Row
 fills =
-    record {
-      computed =
-          stepped unfilled 112 48
-          ∷ block 112 unfilled []
-          ∷ stepped (0x20 ∷ 0x22 ∷ 0x00 ∷ 0x44 ∷ []) 29 0
-          ∷ stepped (0x20 ∷ 0x22 ∷ 0x00 ∷ 0x44 ∷ []) 30 0
-          ∷ [];
-      stated =
-          refusedAt 48 (PduEnd.At 96) 12 43
-          ∷ Answer.Block [] unfilled (walked (first ∷ record { bit = 48; pdu = Pdu.sized 48 (Reading.refused 12 43) } ∷ null 96 ∷ []) 112)
-          ∷ refusedAt 0 (PduEnd.At 29) 12 29
-          ∷ readAt 0 30 (plain 4 true 0 (DownlinkAddress.EventLabel 1)) 29 29
-          ∷ [];
-    }
+    check (stepped unfilled 112 48) (refusedAt 48 (PduEnd.At 96) 12 43)
+    ∷ check (block 112 unfilled []) (Answer.Block [] unfilled (walked (first ∷ entry 48 (Pdu.sized 48 (Reading.refused 12 43)) ∷ null 96 ∷ []) 112))
+    ∷ check (stepped (0x20 ∷ 0x22 ∷ 0x00 ∷ 0x44 ∷ []) 29 0) (refusedAt 0 (PduEnd.At 29) 12 29)
+    ∷ check (stepped (0x20 ∷ 0x22 ∷ 0x00 ∷ 0x44 ∷ []) 30 0) (readAt 0 30 (plain 4 true 0 (DownlinkAddress.EventLabel 1)) 29 29)
+    ∷ []
 
 -- "fewer than 16 bits left: end"; "A step from a bit past N is refused 13": with 16 bits left, with 15, from N and from N + 1
 abbrev pub places : Row
 places =
-    record {
-      computed =
-          stepped (second 0x00 0x39) 96 80
-          ∷ stepped (second 0x00 0x39) 96 81
-          ∷ stepped (second 0x00 0x39) 96 96
-          ∷ stepped (second 0x00 0x39) 96 97
-          ∷ [];
-      stated =
-          refusedAt 80 PduEnd.Unknown 8 7
-          ∷ Answer.Step StepAnswer.End
-          ∷ Answer.Step StepAnswer.End
-          ∷ Answer.Step (StepAnswer.Refused (record { number = 13; offset = 0 }))
-          ∷ [];
-    }
+    check (stepped (second 0x00 0x39) 96 80) (refusedAt 80 PduEnd.Unknown 8 7)
+    ∷ check (stepped (second 0x00 0x39) 96 81) (Answer.Step StepAnswer.End)
+    ∷ check (stepped (second 0x00 0x39) 96 96) (Answer.Step StepAnswer.End)
+    ∷ check (stepped (second 0x00 0x39) 96 97) (noStep 13)
+    ∷ []
 
--- ---- both
+-- ---- reader and writer
 
--- "bit count over limit or slice": 488 bits and 489 in 62 bytes, 16 and 17 in two, to be read and to be written; content of 9 bits and of 8 in
--- one byte
+-- "bit count over limit or slice": 488 bits and 489 in 62 bytes, 16 and 17 in two; content of 9 bits and of 8 in one byte
 abbrev pub addsByte : ℕ → Call HeaderToAdd
 addsByte k = Call.add (addOf (resourceToAdd (ssi1 0 false) LengthIndication.Counted) (0xff ∷ []) k)
 
 abbrev pub limits : Row
 limits =
-    record {
-      computed =
-          stepped (replicate 62 0) 488 0
-          ∷ stepped (replicate 62 0) 489 0
-          ∷ block 489 (replicate 62 0) (counts 0 ∷ Call.finish ∷ [])
-          ∷ stepped (replicate 2 0) 16 0
-          ∷ stepped (replicate 2 0) 17 0
-          ∷ block 17 (replicate 2 0) (counts 0 ∷ Call.finish ∷ [])
-          ∷ block 56 (replicate 7 0) (addsByte 9 ∷ addsByte 8 ∷ [])
-          ∷ [];
-      stated =
-          Answer.Step (StepAnswer.Entry (BlockEntry.Null 0))
-          ∷ Answer.Step (StepAnswer.Refused (record { number = 13; offset = 0 }))
-          ∷ Answer.Block (refused 0 13 ∷ refused 0 13 ∷ []) (replicate 62 0) (walked [] 0)
-          ∷ Answer.Step (StepAnswer.Entry (BlockEntry.Null 0))
-          ∷ Answer.Step (StepAnswer.Refused (record { number = 13; offset = 0 }))
-          ∷ Answer.Block (refused 0 13 ∷ refused 0 13 ∷ []) (replicate 2 0) (walked [] 0)
-          ∷ Answer.Block (refused 0 13 ∷ done 56 ∷ []) (0x20 ∷ 0x39 ∷ 0x00 ∷ 0x00 ∷ 0x01 ∷ 0x1f ∷ 0xf0 ∷ []) (walked (pdu 0 56 7 true 8 5 ∷ []) 56)
-          ∷ [];
-    }
+    check (stepped (replicate 62 0) 488 0) (nullAt 0)
+    ∷ check (stepped (replicate 62 0) 489 0) (noStep 13)
+    ∷ check (block 489 (replicate 62 0) addAndFinish) (Answer.Block (refused 0 13 ∷ refused 0 13 ∷ []) (replicate 62 0) (walked [] 0))
+    ∷ check (stepped (replicate 2 0) 16 0) (nullAt 0)
+    ∷ check (stepped (replicate 2 0) 17 0) (noStep 13)
+    ∷ check (block 17 (replicate 2 0) addAndFinish) (Answer.Block (refused 0 13 ∷ refused 0 13 ∷ []) (replicate 2 0) (walked [] 0))
+    ∷ check (block 56 (replicate 7 0) (addsByte 9 ∷ addsByte 8 ∷ []))
+    (Answer.Block (refused 0 13 ∷ done 56 ∷ []) (0x20 ∷ 0x39 ∷ 0x00 ∷ 0x00 ∷ 0x01 ∷ 0x1f ∷ 0xf0 ∷ []) (walked (pdu 0 56 7 true 8 5 ∷ []) 56))
+    ∷ []
 
 -- ---- the writer
 
@@ -185,76 +127,48 @@ limits =
 -- keep their values." With 0, 1, 15, 16 and 17 bits left
 abbrev pub finishes : Row
 finishes =
-    record {
-      computed =
-          block 0 (replicate 3 0x7f) (Call.finish ∷ [])
-          ∷ block 1 (replicate 3 0x7f) (Call.finish ∷ [])
-          ∷ block 15 (replicate 3 0x7f) (Call.finish ∷ [])
-          ∷ block 16 (replicate 3 0x7f) (Call.finish ∷ [])
-          ∷ block 17 (replicate 3 0x7f) (Call.finish ∷ [])
-          ∷ [];
-      stated =
-          Answer.Block (done 0 ∷ []) (0x7f ∷ 0x7f ∷ 0x7f ∷ []) (walked [] 0)
-          ∷ Answer.Block (done 1 ∷ []) (0xff ∷ 0x7f ∷ 0x7f ∷ []) (walked [] 0)
-          ∷ Answer.Block (done 15 ∷ []) (0x80 ∷ 0x01 ∷ 0x7f ∷ []) (walked [] 0)
-          ∷ Answer.Block (done 16 ∷ []) (0x00 ∷ 0x10 ∷ 0x7f ∷ []) (walked (null 0 ∷ []) 16)
-          ∷ Answer.Block (done 17 ∷ []) (0x00 ∷ 0x10 ∷ 0xff ∷ []) (walked (null 0 ∷ []) 16)
-          ∷ [];
-    }
+    check (block 0 (replicate 3 0x7f) (Call.finish ∷ [])) (Answer.Block (done 0 ∷ []) (0x7f ∷ 0x7f ∷ 0x7f ∷ []) (walked [] 0))
+    ∷ check (block 1 (replicate 3 0x7f) (Call.finish ∷ [])) (Answer.Block (done 1 ∷ []) (0xff ∷ 0x7f ∷ 0x7f ∷ []) (walked [] 0))
+    ∷ check (block 15 (replicate 3 0x7f) (Call.finish ∷ [])) (Answer.Block (done 15 ∷ []) (0x80 ∷ 0x01 ∷ 0x7f ∷ []) (walked [] 0))
+    ∷ check (block 16 (replicate 3 0x7f) (Call.finish ∷ [])) (Answer.Block (done 16 ∷ []) (0x00 ∷ 0x10 ∷ 0x7f ∷ []) (walked (null 0 ∷ []) 16))
+    ∷ check (block 17 (replicate 3 0x7f) (Call.finish ∷ [])) (Answer.Block (done 17 ∷ []) (0x00 ∷ 0x10 ∷ 0xff ∷ []) (walked (null 0 ∷ []) 16))
+    ∷ []
 
--- "A writer's bit past N, or neither N nor on an octet, is refused 13." An add and a finish from bits 4, 16, 19, 20, 21 and 24 of 20
+-- a null PDU and four bits behind it, which calls leave as they are
 abbrev pub closed : List ℕ
 closed = 0x00 ∷ 0x10 ∷ 0xff ∷ []
 
+abbrev pub kept : List Written → Answer
+kept ws = Answer.Block ws closed (walked (null 0 ∷ []) 16)
+
+-- "A writer's bit past N, or neither N nor on an octet, is refused 13." An add and a finish from six bits of 20
 abbrev pub writersBits : Row
 writersBits =
-    record {
-      computed =
-          blockFrom 4 20 closed (counts 0 ∷ Call.finish ∷ [])
-          ∷ blockFrom 16 20 closed (counts 0 ∷ Call.finish ∷ [])
-          ∷ blockFrom 19 20 closed (counts 0 ∷ Call.finish ∷ [])
-          ∷ blockFrom 20 20 closed (counts 0 ∷ Call.finish ∷ [])
-          ∷ blockFrom 21 20 closed (counts 0 ∷ Call.finish ∷ [])
-          ∷ blockFrom 24 20 closed (counts 0 ∷ Call.finish ∷ [])
-          ∷ [];
-      stated =
-          Answer.Block (refused 4 13 ∷ refused 4 13 ∷ []) closed (walked (null 0 ∷ []) 16)
-          ∷ Answer.Block (refused 16 2 ∷ done 20 ∷ []) (0x00 ∷ 0x10 ∷ 0x8f ∷ []) (walked (null 0 ∷ []) 16)
-          ∷ Answer.Block (refused 19 13 ∷ refused 19 13 ∷ []) closed (walked (null 0 ∷ []) 16)
-          ∷ Answer.Block (refused 20 2 ∷ done 20 ∷ []) closed (walked (null 0 ∷ []) 16)
-          ∷ Answer.Block (refused 21 13 ∷ refused 21 13 ∷ []) closed (walked (null 0 ∷ []) 16)
-          ∷ Answer.Block (refused 24 13 ∷ refused 24 13 ∷ []) closed (walked (null 0 ∷ []) 16)
-          ∷ [];
-    }
+    check (blockFrom 4 20 closed addAndFinish) (kept (refused 4 13 ∷ refused 4 13 ∷ []))
+    ∷ check (blockFrom 16 20 closed addAndFinish) (Answer.Block (refused 16 2 ∷ done 20 ∷ []) (0x00 ∷ 0x10 ∷ 0x8f ∷ []) (walked (null 0 ∷ []) 16))
+    ∷ check (blockFrom 19 20 closed addAndFinish) (kept (refused 19 13 ∷ refused 19 13 ∷ []))
+    ∷ check (blockFrom 20 20 closed addAndFinish) (kept (refused 20 2 ∷ done 20 ∷ []))
+    ∷ check (blockFrom 21 20 closed addAndFinish) (kept (refused 21 13 ∷ refused 21 13 ∷ []))
+    ∷ check (blockFrom 24 20 closed addAndFinish) (kept (refused 24 13 ∷ refused 24 13 ∷ []))
+    ∷ []
 
--- "Writes: 13, 8, 9, 10, then 3, 7, 14, 11, 6 in layout order (6 after the patterns), 2 last": adds that 2 would refuse too, with content over 488
--- bits and not: null; SSI 1 with encryption; label 1024; SSI 1, and that with content over its slice
-abbrev pub addsCounted : MacResource → ℕ → Call HeaderToAdd
-addsCounted h k = addsHeader h LengthIndication.Counted k
+-- "Writes: 13, 8, 9, 10, then 3, 7, 14, 11, 6 in layout order (6 after the patterns), 2 last": adds to 20 bits, so that 2 would refuse each. Null,
+-- encryption mode 1 and label 1024, each in 489 bits and in 488; then what is wrong with no header, and content over its slice
+abbrev pub addsTo20 : MacResource → ℕ → Answer
+addsTo20 h k = block 20 closed (addsHeader h LengthIndication.Counted k ∷ [])
 
 abbrev pub order : Row
 order =
-    record {
-      computed =
-          block 20 closed
-          (addsCounted nullPdu 473
-          ∷ addsCounted nullPdu 472
-          ∷ addsCounted (plain 0 false 1 (DownlinkAddress.Ssi SsiType.Ssi 1)) 446
-          ∷ addsCounted (plain 0 false 1 (DownlinkAddress.Ssi SsiType.Ssi 1)) 445
-          ∷ addsCounted (plain 0 false 0 (DownlinkAddress.EventLabel 1024)) 460
-          ∷ addsCounted (plain 0 false 0 (DownlinkAddress.EventLabel 1024)) 459
-          ∷ counts 446
-          ∷ counts 445
-          ∷ counts 481
-          ∷ [])
-          ∷ [];
-      stated =
-          Answer.Block
-          (refused 0 8 ∷ refused 0 9 ∷ refused 0 8 ∷ refused 0 10 ∷ refused 0 8 ∷ refused 0 3 ∷ refused 0 8 ∷ refused 0 2 ∷ refused 0 13 ∷ [])
-          closed
-          (walked (null 0 ∷ []) 16)
-          ∷ [];
-    }
+    check (addsTo20 nullPdu 473) (kept (refused 0 8 ∷ []))
+    ∷ check (addsTo20 nullPdu 472) (kept (refused 0 9 ∷ []))
+    ∷ check (addsTo20 (plain 0 false 1 (DownlinkAddress.Ssi SsiType.Ssi 1)) 446) (kept (refused 0 8 ∷ []))
+    ∷ check (addsTo20 (plain 0 false 1 (DownlinkAddress.Ssi SsiType.Ssi 1)) 445) (kept (refused 0 10 ∷ []))
+    ∷ check (addsTo20 (plain 0 false 0 (DownlinkAddress.EventLabel 1024)) 460) (kept (refused 0 8 ∷ []))
+    ∷ check (addsTo20 (plain 0 false 0 (DownlinkAddress.EventLabel 1024)) 459) (kept (refused 0 3 ∷ []))
+    ∷ check (addsTo20 (ssi1 0 false) 446) (kept (refused 0 8 ∷ []))
+    ∷ check (addsTo20 (ssi1 0 false) 445) (kept (refused 0 2 ∷ []))
+    ∷ check (addsTo20 (ssi1 0 false) 481) (kept (refused 0 13 ∷ []))
+    ∷ []
 
 abbrev pub blockRules : List Row
 blockRules = lengths ∷ marks ∷ nulls ∷ types ∷ fills ∷ places ∷ limits ∷ finishes ∷ writersBits ∷ order ∷ []

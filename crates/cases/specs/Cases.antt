@@ -1,8 +1,8 @@
 -- Document 01, "Bits to hold against": one row for each case, one for the listing's block, and one for the examples of the refusal table. A row
--- has what the definitions give that the contracts cite, and what the paper says. `proofs/Cases.antt` computes every row.
+-- has calls, each with what the definitions give that its contract cites, and what the paper says. `proofs/Cases.antt` computes every row.
 use mathlib.Core.Path.{_≡_}
 use mathlib.Core.Bool.{Bool, true, false}
-use mathlib.Core.List.{List, [], _∷_, _++_}
+use mathlib.Core.List.{List, [], _∷_, _++_, map}
 use Prim.Native.Nat.{ℕ}
 use lib.ListN.{replicate}
 use Rattle.tetra_core.specs.declared.address.SsiType.{SsiType}
@@ -86,14 +86,21 @@ pub data Answer : Type 0 where
   -- one step in a block
   Step : StepAnswer → Answer
 
-pub record Row : Type 0 where
-  pub computed : List Answer
-  pub stated : List Answer
+-- a call, and what it should answer
+pub record Check : Type 0 where
+  pub computed : Answer
+  pub stated : Answer
+
+abbrev pub check : Answer → Answer → Check
+check x y = record { computed = x; stated = y }
+
+abbrev pub Row : Type 0
+Row = List Check
 
 -- in every row both are the same
 abbrev pub Hold : List Row → Type 0
 Hold [] = Unit {0}
-Hold (x ∷ xs) = (x .computed ≡ x .stated) × Hold xs
+Hold (x ∷ xs) = (map (λ (c : Check). c .computed) x ≡ map (λ (c : Check). c .stated) x) × Hold xs
 
 -- ---- headers and elements
 
@@ -164,28 +171,34 @@ done p = record { bit = p; answer = Outcome.Done }
 abbrev pub refused : (bit number : ℕ) → Written
 refused p j = record { bit = p; answer = Outcome.Refused j }
 
+abbrev pub entry : (bit : ℕ) → Pdu DownlinkHeader → Entry DownlinkHeader
+entry p x = record { bit = p; pdu = x }
+
 -- the entry of a PDU of s bits with such a header, k ones and f bits of fill
 abbrev pub pdu : (bit s l : ℕ) → (flag : Bool) → (k f : ℕ) → Entry DownlinkHeader
-pdu p s l flag k f = record { bit = p; pdu = Pdu.sized s (Reading.read (ssi1 l flag) 43 (replicate k true) f) }
-
-abbrev pub nullOf : (length bit : ℕ) → Entry DownlinkHeader
-nullOf l p = record { bit = p; pdu = Pdu.null l }
+pdu p s l flag k f = entry p (Pdu.sized s (Reading.read (ssi1 l flag) 43 (replicate k true) f))
 
 abbrev pub null : (bit : ℕ) → Entry DownlinkHeader
-null p = nullOf 2 p
+null p = entry p (Pdu.null 2)
 
 abbrev pub walked : List (Entry DownlinkHeader) → (rest : ℕ) → Walk DownlinkHeader
 walked es p = record { entries = es; restAt = p }
 
--- a step's answer: a PDU that is read, with its content's range, and one that is refused
+-- a step's answer: a PDU that is read, with its content's range, one that is null, and one that is refused; or the refusal of the step
 abbrev pub readAt : (bit end : ℕ) → MacResource → (from to : ℕ) → Answer
 readAt p e h a b =
     Answer.Step
     (StepAnswer.Entry (BlockEntry.Resource (record { bit = p; end = e; header = h; «content_start» = a; «content_end» = b })))
 
+abbrev pub nullAt : (bit : ℕ) → Answer
+nullAt p = Answer.Step (StepAnswer.Entry (BlockEntry.Null p))
+
 abbrev pub refusedAt : (bit : ℕ) → PduEnd → (number offset : ℕ) → Answer
 refusedAt p e j o =
     Answer.Step (StepAnswer.Entry (BlockEntry.Refused (record { bit = p; end = e; refusal = record { number = j; offset = o } })))
+
+abbrev pub noStep : (number : ℕ) → Answer
+noStep j = Answer.Step (StepAnswer.Refused (record { number = j; offset = 0 }))
 
 -- the bytes of a PDU of 34 octets less 4 bits: its first two, and ones behind the header
 abbrev pub ones : ℕ → ℕ → List ℕ
@@ -196,54 +209,34 @@ ones a b = a ∷ b ∷ 0x00 ∷ 0x00 ∷ 0x01 ∷ 0x1f ∷ (replicate 27 0xff ++
 -- "Null: 00 10 h."
 abbrev pub case-1 : Row
 case-1 =
-    record {
-      computed =
-          Answer.Wrote (macResourceWrite (0xff ∷ 0xff ∷ []) (window 0 16) nullPdu) (macResourceWritten (0xff ∷ 0xff ∷ []) (window 0 16) nullPdu)
-          ∷ Answer.ReadResource (macResourceAt (0x00 ∷ 0x10 ∷ []) (window 0 16))
-          ∷ block 16 (0xff ∷ 0xff ∷ []) (Call.finish ∷ [])
-          ∷ [];
-      stated =
-          wrote 16 16 (0x00 ∷ 0x10 ∷ [])
-          ∷ Answer.ReadResource (record { cursor = window 16 16; answer = MacResourceAnswer.Read nullPdu })
-          ∷ Answer.Block (done 16 ∷ []) (0x00 ∷ 0x10 ∷ []) (walked (null 0 ∷ []) 16)
-          ∷ [];
-    }
+    check (Answer.Wrote (macResourceWrite (0xff ∷ 0xff ∷ []) (window 0 16) nullPdu) (macResourceWritten (0xff ∷ 0xff ∷ []) (window 0 16) nullPdu))
+    (wrote 16 16 (0x00 ∷ 0x10 ∷ []))
+    ∷ check (Answer.ReadResource (macResourceAt (0x00 ∷ 0x10 ∷ []) (window 0 16)))
+    (Answer.ReadResource (record { cursor = window 16 16; answer = MacResourceAnswer.Read nullPdu }))
+    ∷ check (block 16 (0xff ∷ 0xff ∷ []) (Call.finish ∷ [])) (Answer.Block (done 16 ∷ []) (0x00 ∷ 0x10 ∷ []) (walked (null 0 ∷ []) 16))
+    ∷ []
 
 -- "SSI 1, no elements, no content: 43 bits, 6 octets, 5 fill: 20 31 00 00 01 10 h."
 abbrev pub case-2 : Row
 case-2 =
-    record {
-      computed =
-          Answer.HeaderBits (computeHeaderLen (ssi1 0 false))
-          ∷ Answer.Octets (updateLenAndFillInd (ssi1 0 false) 0)
-          ∷ block 48 (replicate 6 0xff) (counts 0 ∷ [])
-          ∷ Answer.ReadResource (macResourceAt (0x20 ∷ 0x31 ∷ 0x00 ∷ 0x00 ∷ 0x01 ∷ 0x10 ∷ []) (window 0 48))
-          ∷ [];
-      stated =
-          Answer.HeaderBits (HeaderLen.Len (record { 0 = 43 }))
-          ∷ octets 6 5 true
-          ∷ Answer.Block (done 48 ∷ []) (0x20 ∷ 0x31 ∷ 0x00 ∷ 0x00 ∷ 0x01 ∷ 0x10 ∷ []) (walked (pdu 0 48 6 true 0 5 ∷ []) 48)
-          ∷ Answer.ReadResource (record { cursor = window 43 48; answer = MacResourceAnswer.Read (ssi1 6 true) })
-          ∷ [];
-    }
+    check (Answer.HeaderBits (computeHeaderLen (ssi1 0 false))) (Answer.HeaderBits (HeaderLen.Len (record { 0 = 43 })))
+    ∷ check (Answer.Octets (updateLenAndFillInd (ssi1 0 false) 0)) (octets 6 5 true)
+    ∷ check (block 48 (replicate 6 0xff) (counts 0 ∷ []))
+    (Answer.Block (done 48 ∷ []) (0x20 ∷ 0x31 ∷ 0x00 ∷ 0x00 ∷ 0x01 ∷ 0x10 ∷ []) (walked (pdu 0 48 6 true 0 5 ∷ []) 48))
+    ∷ check (Answer.ReadResource (macResourceAt (0x20 ∷ 0x31 ∷ 0x00 ∷ 0x00 ∷ 0x01 ∷ 0x10 ∷ []) (window 0 48)))
+    (Answer.ReadResource (record { cursor = window 43 48; answer = MacResourceAnswer.Read (ssi1 6 true) }))
+    ∷ []
 
 -- "Content 5: 6 octets, fill 0; content 6: 7 octets, fill 7."
 abbrev pub case-3 : Row
 case-3 =
-    record {
-      computed =
-          Answer.Octets (updateLenAndFillInd (ssi1 0 false) 5)
-          ∷ Answer.Octets (updateLenAndFillInd (ssi1 0 false) 6)
-          ∷ block 104 (replicate 13 0) (counts 5 ∷ counts 6 ∷ [])
-          ∷ [];
-      stated =
-          octets 6 0 false
-          ∷ octets 7 7 true
-          ∷ Answer.Block (done 48 ∷ done 104 ∷ [])
-          (0x00 ∷ 0x31 ∷ 0x00 ∷ 0x00 ∷ 0x01 ∷ 0x1f ∷ 0x20 ∷ 0x39 ∷ 0x00 ∷ 0x00 ∷ 0x01 ∷ 0x1f ∷ 0xc0 ∷ [])
-          (walked (pdu 0 48 6 false 5 0 ∷ pdu 48 56 7 true 6 7 ∷ []) 104)
-          ∷ [];
-    }
+    check (Answer.Octets (updateLenAndFillInd (ssi1 0 false) 5)) (octets 6 0 false)
+    ∷ check (Answer.Octets (updateLenAndFillInd (ssi1 0 false) 6)) (octets 7 7 true)
+    ∷ check (block 104 (replicate 13 0) (counts 5 ∷ counts 6 ∷ []))
+    (Answer.Block (done 48 ∷ done 104 ∷ [])
+    (0x00 ∷ 0x31 ∷ 0x00 ∷ 0x00 ∷ 0x01 ∷ 0x1f ∷ 0x20 ∷ 0x39 ∷ 0x00 ∷ 0x00 ∷ 0x01 ∷ 0x1f ∷ 0xc0 ∷ [])
+    (walked (pdu 0 48 6 false 5 0 ∷ pdu 48 56 7 true 6 7 ∷ []) 104))
+    ∷ []
 
 -- "Replace, slot 1, both, carrier 1, pattern 1: 23 00 04 80 h, 25 bits."
 abbrev pub replace : ChanAllocElement
@@ -261,32 +254,21 @@ replace =
 
 abbrev pub case-4 : Row
 case-4 =
-    record {
-      computed =
-          Answer.AllocationLen (computeLen replace)
-          ∷ Answer.Wrote (channelAllocationWrite (replicate 4 0) (window 0 32) replace) (channelAllocationWritten (replicate 4 0) (window 0 32) replace)
-          ∷ Answer.ReadAllocation (channelAllocationAt (0x23 ∷ 0x00 ∷ 0x04 ∷ 0x80 ∷ []) (window 0 32))
-          ∷ [];
-      stated =
-          Answer.AllocationLen (ChanAllocLen.Len (record { 0 = 25 }))
-          ∷ wrote 25 32 (0x23 ∷ 0x00 ∷ 0x04 ∷ 0x80 ∷ [])
-          ∷ Answer.ReadAllocation (record { cursor = window 25 32; answer = ChannelAllocationAnswer.Read replace })
-          ∷ [];
-    }
+    check (Answer.AllocationLen (computeLen replace)) (Answer.AllocationLen (ChanAllocLen.Len (record { 0 = 25 })))
+    ∷ check (Answer.Wrote (channelAllocationWrite (replicate 4 0) (window 0 32) replace) (channelAllocationWritten (replicate 4 0) (window 0 32) replace))
+    (wrote 25 32 (0x23 ∷ 0x00 ∷ 0x04 ∷ 0x80 ∷ []))
+    ∷ check (Answer.ReadAllocation (channelAllocationAt (0x23 ∷ 0x00 ∷ 0x04 ∷ 0x80 ∷ []) (window 0 32)))
+    (Answer.ReadAllocation (record { cursor = window 25 32; answer = ChannelAllocationAnswer.Read replace }))
+    ∷ []
 
 -- "`AccessAssign` default: 06 18 h, 14 bits."
 abbrev pub case-5 : Row
 case-5 =
-    record {
-      computed =
-          Answer.Wrote (accessAssignWrite (0 ∷ 0 ∷ []) (window 0 16) defaultAccessAssign) (accessAssignWritten (0 ∷ 0 ∷ []) (window 0 16) defaultAccessAssign)
-          ∷ Answer.ReadAssign (accessAssignAt (0x06 ∷ 0x18 ∷ []) (window 0 16))
-          ∷ [];
-      stated =
-          wrote 14 16 (0x06 ∷ 0x18 ∷ [])
-          ∷ Answer.ReadAssign (record { cursor = window 14 16; answer = AccessAssignAnswer.Read defaultAccessAssign })
-          ∷ [];
-    }
+    check (Answer.Wrote (accessAssignWrite (0 ∷ 0 ∷ []) (window 0 16) defaultAccessAssign) (accessAssignWritten (0 ∷ 0 ∷ []) (window 0 16) defaultAccessAssign))
+    (wrote 14 16 (0x06 ∷ 0x18 ∷ []))
+    ∷ check (Answer.ReadAssign (accessAssignAt (0x06 ∷ 0x18 ∷ []) (window 0 16)))
+    (Answer.ReadAssign (record { cursor = window 14 16; answer = AccessAssignAnswer.Read defaultAccessAssign }))
+    ∷ []
 
 -- "Header 3, downlink 4, uplink 0: C4 00 h; uplink 2 refused 7 at 8."
 abbrev pub traffic4 : AccessAssign
@@ -294,18 +276,13 @@ traffic4 = AccessAssign.DownlinkDefinedUplinkDefined (AccessAssignDlUsage.Traffi
 
 abbrev pub case-6 : Row
 case-6 =
-    record {
-      computed =
-          Answer.Wrote (accessAssignWrite (0 ∷ 0 ∷ []) (window 0 16) traffic4) (accessAssignWritten (0 ∷ 0 ∷ []) (window 0 16) traffic4)
-          ∷ Answer.ReadAssign (accessAssignAt (0xc4 ∷ 0x00 ∷ []) (window 0 16))
-          ∷ Answer.ReadAssign (accessAssignAt (0xc4 ∷ 0x08 ∷ []) (window 0 16))
-          ∷ [];
-      stated =
-          wrote 14 16 (0xc4 ∷ 0x00 ∷ [])
-          ∷ Answer.ReadAssign (record { cursor = window 14 16; answer = AccessAssignAnswer.Read traffic4 })
-          ∷ Answer.ReadAssign (record { cursor = window 0 16; answer = AccessAssignAnswer.Refused (record { number = 7; offset = 8 }) })
-          ∷ [];
-    }
+    check (Answer.Wrote (accessAssignWrite (0 ∷ 0 ∷ []) (window 0 16) traffic4) (accessAssignWritten (0 ∷ 0 ∷ []) (window 0 16) traffic4))
+    (wrote 14 16 (0xc4 ∷ 0x00 ∷ []))
+    ∷ check (Answer.ReadAssign (accessAssignAt (0xc4 ∷ 0x00 ∷ []) (window 0 16)))
+    (Answer.ReadAssign (record { cursor = window 14 16; answer = AccessAssignAnswer.Read traffic4 }))
+    ∷ check (Answer.ReadAssign (accessAssignAt (0xc4 ∷ 0x08 ∷ []) (window 0 16)))
+    (Answer.ReadAssign (record { cursor = window 0 16; answer = AccessAssignAnswer.Refused (record { number = 7; offset = 8 }) }))
+    ∷ []
 
 -- "MAC-ACCESS, SSI 1, no options: 00 00 00 08 h, 30 bits."
 abbrev pub access1 : MacAccess
@@ -313,16 +290,11 @@ access1 = record { «fill_bits» = false; encrypted = false; addr = UplinkAddres
 
 abbrev pub case-7 : Row
 case-7 =
-    record {
-      computed =
-          Answer.Wrote (macAccessWrite (replicate 4 0) (window 0 32) access1) (macAccessWritten (replicate 4 0) (window 0 32) access1)
-          ∷ Answer.ReadAccess (macAccessAt (0x00 ∷ 0x00 ∷ 0x00 ∷ 0x08 ∷ []) (window 0 32))
-          ∷ [];
-      stated =
-          wrote 30 32 (0x00 ∷ 0x00 ∷ 0x00 ∷ 0x08 ∷ [])
-          ∷ Answer.ReadAccess (record { cursor = window 30 32; answer = MacAccessAnswer.Read access1 })
-          ∷ [];
-    }
+    check (Answer.Wrote (macAccessWrite (replicate 4 0) (window 0 32) access1) (macAccessWritten (replicate 4 0) (window 0 32) access1))
+    (wrote 30 32 (0x00 ∷ 0x00 ∷ 0x00 ∷ 0x08 ∷ []))
+    ∷ check (Answer.ReadAccess (macAccessAt (0x00 ∷ 0x00 ∷ 0x00 ∷ 0x08 ∷ []) (window 0 32)))
+    (Answer.ReadAccess (record { cursor = window 30 32; answer = MacAccessAnswer.Read access1 }))
+    ∷ []
 
 -- "MAC-DATA, label 1, length 5: 04 01 0A h, 23 bits."
 abbrev pub data1 : MacData
@@ -330,62 +302,38 @@ data1 = record { «fill_bits» = false; encrypted = false; addr = UplinkAddress.
 
 abbrev pub case-8 : Row
 case-8 =
-    record {
-      computed =
-          Answer.Wrote (macDataWrite (replicate 3 0) (window 0 24) data1) (macDataWritten (replicate 3 0) (window 0 24) data1)
-          ∷ Answer.ReadData (macDataAt (0x04 ∷ 0x01 ∷ 0x0A ∷ []) (window 0 24))
-          ∷ [];
-      stated =
-          wrote 23 24 (0x04 ∷ 0x01 ∷ 0x0A ∷ [])
-          ∷ Answer.ReadData (record { cursor = window 23 24; answer = MacDataAnswer.Read data1 })
-          ∷ [];
-    }
+    check (Answer.Wrote (macDataWrite (replicate 3 0) (window 0 24) data1) (macDataWritten (replicate 3 0) (window 0 24) data1))
+    (wrote 23 24 (0x04 ∷ 0x01 ∷ 0x0A ∷ []))
+    ∷ check (Answer.ReadData (macDataAt (0x04 ∷ 0x01 ∷ 0x0A ∷ []) (window 0 24)))
+    (Answer.ReadData (record { cursor = window 23 24; answer = MacDataAnswer.Read data1 }))
+    ∷ []
 
 -- "One PDU of 268 bits in 268: length 34, fill clear; 267: fill one bit."
 abbrev pub case-9 : Row
 case-9 =
-    record {
-      computed =
-          block 268 (replicate 34 0) (counts 225 ∷ Call.finish ∷ [])
-          ∷ block 268 (replicate 34 0) (counts 224 ∷ Call.finish ∷ [])
-          ∷ [];
-      stated =
-          Answer.Block (done 268 ∷ done 268 ∷ []) (ones 0x01 0x11) (walked (pdu 0 268 34 false 225 0 ∷ []) 268)
-          ∷ Answer.Block (done 268 ∷ done 268 ∷ []) (ones 0x21 0x11) (walked (pdu 0 268 34 true 224 1 ∷ []) 268)
-          ∷ [];
-    }
+    check (block 268 (replicate 34 0) (counts 225 ∷ Call.finish ∷ []))
+    (Answer.Block (done 268 ∷ done 268 ∷ []) (ones 0x01 0x11) (walked (pdu 0 268 34 false 225 0 ∷ []) 268))
+    ∷ check (block 268 (replicate 34 0) (counts 224 ∷ Call.finish ∷ []))
+    (Answer.Block (done 268 ∷ done 268 ∷ []) (ones 0x21 0x11) (walked (pdu 0 268 34 true 224 1 ∷ []) 268))
+    ∷ []
 
 -- "Read in 268: length 34 accepted, 35 refused 8."
 abbrev pub case-10 : Row
 case-10 =
-    record {
-      computed =
-          stepped (ones 0x01 0x11) 268 0
-          ∷ stepped (ones 0x01 0x19) 268 0
-          ∷ [];
-      stated =
-          readAt 0 268 (ssi1 34 false) 43 268
-          ∷ refusedAt 0 PduEnd.Unknown 8 7
-          ∷ [];
-    }
+    check (stepped (ones 0x01 0x11) 268 0) (readAt 0 268 (ssi1 34 false) 43 268)
+    ∷ check (stepped (ones 0x01 0x19) 268 0) (refusedAt 0 PduEnd.Unknown 8 7)
+    ∷ []
 
 -- "488 bits give 61 octets; 489 refused 8."
 abbrev pub case-11 : Row
 case-11 =
-    record {
-      computed =
-          Answer.Octets (updateLenAndFillInd (ssi1 0 false) 445)
-          ∷ Answer.Octets (updateLenAndFillInd (ssi1 0 false) 446)
-          ∷ block 488 (replicate 61 0) (counts 446 ∷ counts 445 ∷ [])
-          ∷ [];
-      stated =
-          octets 61 0 false
-          ∷ Answer.Octets (LenAndFill.Refused 8)
-          ∷ Answer.Block (refused 0 8 ∷ done 488 ∷ [])
-          (0x01 ∷ 0xe9 ∷ 0x00 ∷ 0x00 ∷ 0x01 ∷ 0x1f ∷ replicate 55 0xff)
-          (walked (pdu 0 488 61 false 445 0 ∷ []) 488)
-          ∷ [];
-    }
+    check (Answer.Octets (updateLenAndFillInd (ssi1 0 false) 445)) (octets 61 0 false)
+    ∷ check (Answer.Octets (updateLenAndFillInd (ssi1 0 false) 446)) (Answer.Octets (LenAndFill.Refused 8))
+    ∷ check (block 488 (replicate 61 0) (counts 446 ∷ counts 445 ∷ []))
+    (Answer.Block (refused 0 8 ∷ done 488 ∷ [])
+    (0x01 ∷ 0xe9 ∷ 0x00 ∷ 0x00 ∷ 0x01 ∷ 0x1f ∷ replicate 55 0xff)
+    (walked (pdu 0 488 61 false 445 0 ∷ []) 488))
+    ∷ []
 
 -- "For 124 bits, 20 31 00 00 01 10 00 10 80 then seven 00 h": the block as it is read, and as it is written over ones. Adds refused 8, 2 and 13,
 -- an add after the finish, and a second finish are among the calls, and the four bits past 124 keep their values
@@ -394,26 +342,20 @@ listed last = 0x20 ∷ 0x31 ∷ 0x00 ∷ 0x00 ∷ 0x01 ∷ 0x10 ∷ 0x00 ∷ 0x1
 
 abbrev pub listing : Row
 listing =
-    record {
-      computed =
-          block 124 (listed 0x00) []
-          ∷ block 124 (replicate 16 0xff)
-          (counts 0
-          ∷ counts 446
-          ∷ adds LengthIndication.SecondSlotStolen 34
-          ∷ adds LengthIndication.FragStart 481
-          ∷ Call.finish
-          ∷ adds LengthIndication.FragStart 0
-          ∷ Call.finish
-          ∷ [])
-          ∷ [];
-      stated =
-          Answer.Block [] (listed 0x00) (walked (pdu 0 48 6 true 0 5 ∷ null 48 ∷ []) 64)
-          ∷ Answer.Block (done 48 ∷ refused 48 8 ∷ refused 48 2 ∷ refused 48 13 ∷ done 124 ∷ refused 124 2 ∷ done 124 ∷ [])
-          (listed 0x0f)
-          (walked (pdu 0 48 6 true 0 5 ∷ null 48 ∷ []) 64)
-          ∷ [];
-    }
+    check (block 124 (listed 0x00) []) (Answer.Block [] (listed 0x00) (walked (pdu 0 48 6 true 0 5 ∷ null 48 ∷ []) 64))
+    ∷ check (block 124 (replicate 16 0xff)
+    (counts 0
+    ∷ counts 446
+    ∷ adds LengthIndication.SecondSlotStolen 34
+    ∷ adds LengthIndication.FragStart 481
+    ∷ Call.finish
+    ∷ adds LengthIndication.FragStart 0
+    ∷ Call.finish
+    ∷ []))
+    (Answer.Block (done 48 ∷ refused 48 8 ∷ refused 48 2 ∷ refused 48 13 ∷ done 124 ∷ refused 124 2 ∷ done 124 ∷ [])
+    (listed 0x0f)
+    (walked (pdu 0 48 6 true 0 5 ∷ null 48 ∷ []) 64))
+    ∷ []
 
 -- a write that is refused leaves the cursor at 0 and the bytes
 abbrev pub notWritten : (number n : ℕ) → List ℕ → Answer
@@ -444,36 +386,25 @@ delay14 = record { «capacity_allocation» = BasicSlotgrantCapAlloc.Grant4Slots;
 -- 6 "direction 0"; 9 "null, fill set"; 10 "mode 1, SSI 1"; 11; 12 "all zeros"; 13 "count 9, one byte"; 14. Those of 7 and 8 are cases 6 and 11
 abbrev pub refusals : Row
 refusals =
-    record {
-      computed =
-          Answer.ReadField (readBits (0xff ∷ []) (window 5 8) 4)
-          ∷ block 268 (replicate 34 0) (counts 226 ∷ [])
-          ∷ resourceWritten (plain 6 false 0 (DownlinkAddress.EventLabel 1024))
-          ∷ Answer.ReadResource (macResourceAt (0x40 ∷ 0x00 ∷ []) (window 0 16))
-          ∷ Answer.ReadAllocation (channelAllocationAt (0x23 ∷ 0x00 ∷ 0x06 ∷ 0x80 ∷ []) (window 0 32))
-          ∷ Answer.ReadAllocation (channelAllocationAt (0x20 ∷ 0x00 ∷ 0x04 ∷ 0x80 ∷ []) (window 0 32))
-          ∷ resourceWritten (plain 2 true 0 DownlinkAddress.NullPdu)
-          ∷ resourceWritten (plain 6 false 1 (DownlinkAddress.Ssi SsiType.Ssi 1))
-          ∷ Answer.Wrote (channelAllocationWrite (replicate 4 0) (window 0 32) patternless) (channelAllocationWritten (replicate 4 0) (window 0 32) patternless)
-          ∷ stepped (0x20 ∷ 0x31 ∷ 0x00 ∷ 0x00 ∷ 0x01 ∷ 0x00 ∷ []) 48 0
-          ∷ Answer.OpenedWindow (opened 1 9)
-          ∷ Answer.Wrote (slotgrantWrite (0xff ∷ []) (window 0 8) delay14) (slotgrantWritten (0xff ∷ []) (window 0 8) delay14)
-          ∷ [];
-      stated =
-          Answer.ReadField (record { cursor = window 5 8; answer = BitsAnswer.Refused (record { number = 1; offset = 0 }) })
-          ∷ Answer.Block (refused 0 2 ∷ []) (replicate 34 0) (walked (nullOf 0 0 ∷ []) 16)
-          ∷ notWritten 3 48 (replicate 6 0)
-          ∷ Answer.ReadResource (record { cursor = window 0 16; answer = MacResourceAnswer.Refused (record { number = 4; offset = 0 }) })
-          ∷ Answer.ReadAllocation (record { cursor = window 0 32; answer = ChannelAllocationAnswer.Refused (record { number = 5; offset = 22 }) })
-          ∷ Answer.ReadAllocation (record { cursor = window 0 32; answer = ChannelAllocationAnswer.Refused (record { number = 6; offset = 6 }) })
-          ∷ notWritten 9 48 (replicate 6 0)
-          ∷ notWritten 10 48 (replicate 6 0)
-          ∷ notWritten 11 32 (replicate 4 0)
-          ∷ refusedAt 0 (PduEnd.At 48) 12 43
-          ∷ Answer.OpenedWindow (Opened.Refused (record { number = 13; offset = 0 }))
-          ∷ notWritten 14 8 (0xff ∷ [])
-          ∷ [];
-    }
+    check (Answer.ReadField (readBits (0xff ∷ []) (window 5 8) 4))
+    (Answer.ReadField (record { cursor = window 5 8; answer = BitsAnswer.Refused (record { number = 1; offset = 0 }) }))
+    ∷ check (block 268 (replicate 34 0) (counts 226 ∷ [])) (Answer.Block (refused 0 2 ∷ []) (replicate 34 0) (walked (entry 0 (Pdu.null 0) ∷ []) 16))
+    ∷ check (resourceWritten (plain 6 false 0 (DownlinkAddress.EventLabel 1024))) (notWritten 3 48 (replicate 6 0))
+    ∷ check (Answer.ReadResource (macResourceAt (0x40 ∷ 0x00 ∷ []) (window 0 16)))
+    (Answer.ReadResource (record { cursor = window 0 16; answer = MacResourceAnswer.Refused (record { number = 4; offset = 0 }) }))
+    ∷ check (Answer.ReadAllocation (channelAllocationAt (0x23 ∷ 0x00 ∷ 0x06 ∷ 0x80 ∷ []) (window 0 32)))
+    (Answer.ReadAllocation (record { cursor = window 0 32; answer = ChannelAllocationAnswer.Refused (record { number = 5; offset = 22 }) }))
+    ∷ check (Answer.ReadAllocation (channelAllocationAt (0x20 ∷ 0x00 ∷ 0x04 ∷ 0x80 ∷ []) (window 0 32)))
+    (Answer.ReadAllocation (record { cursor = window 0 32; answer = ChannelAllocationAnswer.Refused (record { number = 6; offset = 6 }) }))
+    ∷ check (resourceWritten (plain 2 true 0 DownlinkAddress.NullPdu)) (notWritten 9 48 (replicate 6 0))
+    ∷ check (resourceWritten (plain 6 false 1 (DownlinkAddress.Ssi SsiType.Ssi 1))) (notWritten 10 48 (replicate 6 0))
+    ∷ check (Answer.Wrote (channelAllocationWrite (replicate 4 0) (window 0 32) patternless) (channelAllocationWritten (replicate 4 0) (window 0 32) patternless))
+    (notWritten 11 32 (replicate 4 0))
+    ∷ check (stepped (0x20 ∷ 0x31 ∷ 0x00 ∷ 0x00 ∷ 0x01 ∷ 0x00 ∷ []) 48 0) (refusedAt 0 (PduEnd.At 48) 12 43)
+    ∷ check (Answer.OpenedWindow (opened 1 9)) (Answer.OpenedWindow (Opened.Refused (record { number = 13; offset = 0 })))
+    ∷ check (Answer.Wrote (slotgrantWrite (0xff ∷ []) (window 0 8) delay14) (slotgrantWritten (0xff ∷ []) (window 0 8) delay14))
+    (notWritten 14 8 (0xff ∷ []))
+    ∷ []
 
 abbrev pub cases : List Row
 cases = case-1 ∷ case-2 ∷ case-3 ∷ case-4 ∷ case-5 ∷ case-6 ∷ case-7 ∷ case-8 ∷ case-9 ∷ case-10 ∷ case-11 ∷ listing ∷ refusals ∷ []
