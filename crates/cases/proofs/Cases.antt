@@ -44,7 +44,7 @@ use Rattle.cases.specs.BitCalls.{BitCallsHold}
 
 pub cases-hold : Hold (cases ++ blockRules)
 unfolding odd val bitsOfNat bitsOf pack splice bitsAt getBits putBits goodWindow readRefusal readBits opened octetCount first fieldAt within rowBits refusalAt writeAt writtenAt allocTypeOf ulDlOf readMonPatterns readChannelAllocation channelAllocationAt frame18Refusal lenRefusal channelAllocationRefusal channelAllocationBits channelAllocationLen computeLen slotgrantRefusal slotgrantRow uplinkWidth uplinkOf readUplinkAddress uplinkAddressRefusal uplinkAddressRow readUplinkBody readUplinkHead uplinkRefusal uplinkBodyRow uplinkRow accessCodeOf baseFrameLengthOf accessFieldOf trafficRefusal dlUsageOf ulUsageOf accessAssignOf readAccessAssign accessAssignAt accessAssignRow access.readOption readMacAccess macAccessAt macAccessRefusal macAccessRow data'.readOption readMacData macDataAt macDataRefusal macDataRow addrTypeOf readAddress one readBehindType readFixed fixedRow optional readPower readGranting readAllocation readElements elementsRefusal elementsBits readMacResource macResourceAt encryptedRefusal nullRefusal fieldsRefusal resource.addRefusal macResourceRefusal headerBits headerLen lengthRefusal computeHeaderLen updateLenAndFillInd field countedExtent resourceExtent extentOf extent extend beforeLastOne behindHeader readOwn readPdu goodBlock stepOf pduOf firstPdu stepAt step goOn follow walkBy walkFrom walk lengthOf pduSize flagOf fillBits nullBits finishBits goodBit after finishRefusal finished finishTo finishAnswer checkOf refusalOf addRefusal addedBits added addTo addAnswer perform run endingOf sizedEntry entryOf stepAnswer answers blockFrom headRow patternsRow readGrantAndAllocation grantAndAllocationRefusal grantAndAllocationBits
-cases-hold = (refl, (refl, (refl, (refl, (refl, (refl, (refl, (refl, (refl, (refl, (refl, (refl, (refl, (refl, (refl, (refl, (refl, (refl, (refl, (refl, (refl, (refl, (refl, tt)))))))))))))))))))))))
+cases-hold = (refl, (refl, (refl, (refl, (refl, (refl, (refl, (refl, (refl, (refl, (refl, (refl, (refl, (refl, (refl, (refl, (refl, (refl, (refl, (refl, (refl, (refl, (refl, (refl, tt))))))))))))))))))))))))
 
 pub bit-calls-hold : BitCallsHold
 unfolding odd val bitsOfNat bitsOf pack splice bitsAt getBits putBits goodWindow first readRefusal readBits peekAt placeOf intoSliceRefusal readBitsIntoSlice slicedBits roomRefusal toBitarr bitarr writeRefusal writeBits written writeRun runWritten copyRefusal copyBits copied fromBitarrRefusal copyBitsFromBitarr fromBitarr windowCount changed seekRel opened octetCount

@@ -6,8 +6,15 @@ use Prim.Native.Nat.{ℕ}
 use lib.ListN.{replicate}
 use Rattle.tetra_core.specs.declared.address.SsiType.{SsiType}
 use Rattle.tetra_core.specs.declared.address.DownlinkAddress.{DownlinkAddress}
+use Rattle.channel_allocation.specs.declared.enums.ul_dl_assignment.UlDlAssignment.{UlDlAssignment}
+use Rattle.channel_allocation.specs.declared.channel_allocation.Frame18Pattern.{Frame18Pattern}
+use Rattle.channel_allocation.specs.declared.channel_allocation.ChanAllocLen.{ChanAllocLen}
+use Rattle.channel_allocation.specs.ChannelAllocation.{computeLen}
+use Rattle.optional_elements.specs.declared.allocation.OptionalAllocation.{OptionalAllocation}
 use Rattle.mac_resource.specs.declared.mac_resource.MacResource.{MacResource}
-use Rattle.mac_resource.specs.MacResource.{nullPdu}
+use Rattle.mac_resource.specs.declared.mac_resource.HeaderLen.{HeaderLen}
+use Rattle.mac_resource.specs.declared.mac_resource.LenAndFill.{LenAndFill}
+use Rattle.mac_resource.specs.MacResource.{nullPdu, computeHeaderLen, updateLenAndFillInd}
 use Rattle.block_rules.specs.declared.to_add.LengthIndication.{LengthIndication}
 use Rattle.block_rules.specs.Read.{Reading}
 use Rattle.block_rules.specs.Walk.{Pdu, Entry}
@@ -17,7 +24,7 @@ use Rattle.block_rules.specs.Downlink.{DownlinkHeader, HeaderToAdd, resourceToA
 use Rattle.mac_block.specs.declared.reader.PduEnd.{PduEnd}
 use Rattle.mac_block.specs.declared.reader.StepAnswer.{StepAnswer}
 use Rattle.mac_block.specs.declared.writer.Written.{Written}
-use Rattle.cases.specs.Cases.{Answer, check, Row, blockFrom, block, stepped, plain, ssi1, addsHeader, adds, counts, done, refused, entry, pdu, null, walked, readAt, nullAt, refusedAt, noStep}
+use Rattle.cases.specs.Cases.{Answer, check, Row, blockFrom, block, stepped, allocation, header, plain, ssi1, addsHeader, adds, counts, done, refused, entry, pdu, null, walked, readAt, nullAt, refusedAt, noStep}
 
 -- ---- two PDUs: the first of 48 bits, so that the second begins at bit 48
 
@@ -153,7 +160,7 @@ writersBits =
     ∷ []
 
 -- "Writes: 13, 8, 9, 10, then 3, 7, 14, 11, 6 in layout order (6 after the patterns), 2 last": adds to 20 bits, so that 2 would refuse each. Null,
--- encryption mode 1 and label 1024, each in 489 bits and in 488; then what is wrong with no header, and content over its slice
+-- encryption mode 1, label 1024 and a good header, each in 489 bits and in 488; content over its slice; and "over 61 octets, marked or counted"
 abbrev pub addsTo20 : MacResource → ℕ → Answer
 addsTo20 h k = block 20 closed (addsHeader h LengthIndication.Counted k ∷ [])
 
@@ -168,7 +175,23 @@ order =
     ∷ check (addsTo20 (ssi1 0 false) 446) (kept (refused 0 8 ∷ []))
     ∷ check (addsTo20 (ssi1 0 false) 445) (kept (refused 0 2 ∷ []))
     ∷ check (addsTo20 (ssi1 0 false) 481) (kept (refused 0 13 ∷ []))
+    ∷ check (block 20 closed (adds LengthIndication.FragStart 446 ∷ [])) (kept (refused 0 8 ∷ []))
+    ∷ []
+
+-- "The three length functions refuse 6 for direction 0, before 8; in an add such an element counts 25 or 27 bits."
+abbrev pub augmented : (pattern : ℕ) → Frame18Pattern → MacResource
+augmented p f = header 0 false 0 (DownlinkAddress.Ssi SsiType.Ssi 1) (OptionalAllocation.Element (allocation UlDlAssignment.Augmented p f))
+
+abbrev pub directions : Row
+directions =
+    check (Answer.AllocationLen (computeLen (allocation UlDlAssignment.Augmented 1 Frame18Pattern.Without))) (Answer.AllocationLen (ChanAllocLen.Refused 6))
+    ∷ check (Answer.HeaderBits (computeHeaderLen (augmented 1 Frame18Pattern.Without))) (Answer.HeaderBits (HeaderLen.Refused 6))
+    ∷ check (Answer.Octets (updateLenAndFillInd (augmented 1 Frame18Pattern.Without) 488)) (Answer.Octets (LenAndFill.Refused 6))
+    ∷ check (addsTo20 (augmented 1 Frame18Pattern.Without) 421) (kept (refused 0 8 ∷ []))
+    ∷ check (addsTo20 (augmented 1 Frame18Pattern.Without) 420) (kept (refused 0 6 ∷ []))
+    ∷ check (addsTo20 (augmented 0 (Frame18Pattern.Pattern 1)) 419) (kept (refused 0 8 ∷ []))
+    ∷ check (addsTo20 (augmented 0 (Frame18Pattern.Pattern 1)) 418) (kept (refused 0 6 ∷ []))
     ∷ []
 
 abbrev pub blockRules : List Row
-blockRules = lengths ∷ marks ∷ nulls ∷ types ∷ fills ∷ places ∷ limits ∷ finishes ∷ writersBits ∷ order ∷ []
+blockRules = lengths ∷ marks ∷ nulls ∷ types ∷ fills ∷ places ∷ limits ∷ finishes ∷ writersBits ∷ order ∷ directions ∷ []

@@ -115,6 +115,20 @@ wrote p n bytes = Answer.Wrote (record { cursor = window p n; answer = Outcome.D
 abbrev pub octets : (octets fill : ℕ) → Bool → Answer
 octets o f flag = Answer.Octets (LenAndFill.Counted (record { 0 = o }) (record { 0 = f }) flag)
 
+-- to replace with slot 1 of carrier 1
+abbrev pub allocation : UlDlAssignment → (pattern : ℕ) → Frame18Pattern → ChanAllocElement
+allocation d p f =
+    record {
+      «alloc_type» = ChanAllocType.Replace;
+      «ts_assigned» = record { ts1 = true; ts2 = false; ts3 = false; ts4 = false };
+      «ul_dl_assigned» = d;
+      «clch_permission» = false;
+      «cell_change_flag» = false;
+      «carrier_num» = 1;
+      «mon_pattern» = p;
+      «frame18_mon_pattern» = f;
+    }
+
 -- ---- blocks: the calls on one, as its contracts have them
 
 unfoldable pub answers : (n : ℕ) → List (Call HeaderToAdd) → Writer → List Written
@@ -135,9 +149,9 @@ block n bytes calls = blockFrom 0 n bytes calls
 abbrev pub stepped : List ℕ → (n p : ℕ) → Answer
 stepped bytes n p = Answer.Step (stepAnswer (step downlinkReader bytes n p))
 
--- a header with no elements
-abbrev pub plain : (length : ℕ) → (fill : Bool) → (mode : ℕ) → DownlinkAddress → MacResource
-plain l f m a =
+-- a header with a channel allocation or none, and no other element
+abbrev pub header : (length : ℕ) → (fill : Bool) → (mode : ℕ) → DownlinkAddress → OptionalAllocation → MacResource
+header l f m a e =
     record {
       «fill_bits» = f;
       «pos_of_grant» = 0;
@@ -147,8 +161,11 @@ plain l f m a =
       addr = a;
       «power_control_element» = OptionalPower.Without;
       «slot_granting_element» = OptionalGrant.Without;
-      «chan_alloc_element» = OptionalAllocation.Without;
+      «chan_alloc_element» = e;
     }
+
+abbrev pub plain : (length : ℕ) → (fill : Bool) → (mode : ℕ) → DownlinkAddress → MacResource
+plain l f m a = header l f m a OptionalAllocation.Without
 
 -- "SSI 1, no elements"
 abbrev pub ssi1 : (length : ℕ) → (fill : Bool) → MacResource
@@ -240,17 +257,7 @@ case-3 =
 
 -- "Replace, slot 1, both, carrier 1, pattern 1: 23 00 04 80 h, 25 bits."
 abbrev pub replace : ChanAllocElement
-replace =
-    record {
-      «alloc_type» = ChanAllocType.Replace;
-      «ts_assigned» = record { ts1 = true; ts2 = false; ts3 = false; ts4 = false };
-      «ul_dl_assigned» = UlDlAssignment.Both;
-      «clch_permission» = false;
-      «cell_change_flag» = false;
-      «carrier_num» = 1;
-      «mon_pattern» = 1;
-      «frame18_mon_pattern» = Frame18Pattern.Without;
-    }
+replace = allocation UlDlAssignment.Both 1 Frame18Pattern.Without
 
 abbrev pub case-4 : Row
 case-4 =
@@ -366,17 +373,7 @@ resourceWritten h = Answer.Wrote (macResourceWrite (replicate 6 0) (window 0 48)
 
 -- "pattern 0, none"
 abbrev pub patternless : ChanAllocElement
-patternless =
-    record {
-      «alloc_type» = ChanAllocType.Replace;
-      «ts_assigned» = record { ts1 = true; ts2 = false; ts3 = false; ts4 = false };
-      «ul_dl_assigned» = UlDlAssignment.Both;
-      «clch_permission» = false;
-      «cell_change_flag» = false;
-      «carrier_num» = 1;
-      «mon_pattern» = 0;
-      «frame18_mon_pattern» = Frame18Pattern.Without;
-    }
+patternless = allocation UlDlAssignment.Both 0 Frame18Pattern.Without
 
 -- "delay count 14"
 abbrev pub delay14 : BasicSlotgrant
