@@ -55,10 +55,11 @@ lengths =
     ∷ check (stepped (second 0x00 0x39) 96 48) (refusedAt 48 PduEnd.Unknown 8 7)
     ∷ []
 
--- "length 62 or 63: the PDU runs to N"; "A marked PDU takes the rest of the block."
-abbrev pub marked : (second : ℕ) → List ℕ
+-- SSI 1, five ones and 12 bits of fill; the four bits behind it were ones before
+abbrev pub marked : ℕ → List ℕ
 marked b = 0x21 ∷ b ∷ 0x00 ∷ 0x00 ∷ 0x01 ∷ 0x1f ∷ 0x80 ∷ 0x0f ∷ []
 
+-- "length 62 or 63: the PDU runs to N"; "A marked PDU takes the rest of the block."
 abbrev pub marks : Row
 marks =
     check (stepped (second 0x01 0xf1) 97 48) (readAt 48 97 (ssi1 62 false) 91 97)
@@ -88,11 +89,12 @@ types =
     ∷ check (block 104 (second 0xc0 0x31) []) (Answer.Block [] (second 0xc0 0x31) (walked (first ∷ entry 48 (Pdu.unsized 4 0) ∷ []) 48))
     ∷ []
 
--- "if it or its fill (12) is refused, the walk goes on at the PDU's end": fill set and five zeros behind the header, then a null PDU. And a header
--- of 29 bits that is all of its PDU; the 1 behind it is fill only in a block of 30 bits
+-- fill set and five zeros behind the header, then a null PDU
 abbrev pub unfilled : List ℕ
 unfilled = behind (0x20 ∷ 0x31 ∷ 0x00 ∷ 0x00 ∷ 0x01 ∷ 0x00 ∷ 0x00 ∷ 0x10 ∷ [])
 
+-- "if it or its fill (12) is refused, the walk goes on at the PDU's end"; "4, 8 and 12 give 0, 7 and the header's end." And a header of 29 bits that
+-- is all of its PDU; the 1 behind it is fill in a block of 30 bits
 abbrev pub fills : Row
 fills =
     check (stepped unfilled 112 48) (refusedAt 48 (PduEnd.At 96) 12 43)
@@ -112,10 +114,11 @@ places =
 
 -- ---- reader and writer
 
--- "bit count over limit or slice": 488 bits and 489 in 62 bytes, 16 and 17 in two; content of 9 bits and of 8 in one byte
+-- an add of k bits out of one byte
 abbrev pub addsByte : ℕ → Call HeaderToAdd
 addsByte k = Call.add (addOf (resourceToAdd (ssi1 0 false) LengthIndication.Counted) (0xff ∷ []) k)
 
+-- "bit count over limit or slice": 488 bits and 489 in 62 bytes, 16 and 17 in two; content of 9 bits and of 8 in one byte
 abbrev pub limits : Row
 limits =
     check (stepped (replicate 62 0) 488 0) (nullAt 0)
@@ -159,11 +162,12 @@ writersBits =
     ∷ check (blockFrom 24 20 closed addAndFinish) (kept (refused 24 13 ∷ refused 24 13 ∷ []))
     ∷ []
 
--- "Writes: 13, 8, 9, 10, then 3, 7, 14, 11, 6 in layout order (6 after the patterns), 2 last": adds to 20 bits, so that 2 would refuse each. Null,
--- encryption mode 1, label 1024 and a good header, each in 489 bits and in 488; content over its slice; and "over 61 octets, marked or counted"
+-- an add of k bits to 20, so that 2 would refuse it
 abbrev pub addsTo20 : MacResource → ℕ → Answer
 addsTo20 h k = block 20 closed (addsHeader h LengthIndication.Counted k ∷ [])
 
+-- "Writes: 13, 8, 9, 10, then 3, 7, 14, 11, 6 in layout order (6 after the patterns), 2 last". Null,
+-- encryption mode 1, label 1024 and a good header, each in 489 bits and in 488; content over its slice; and "over 61 octets, marked or counted"
 abbrev pub order : Row
 order =
     check (addsTo20 nullPdu 473) (kept (refused 0 8 ∷ []))
@@ -178,10 +182,10 @@ order =
     ∷ check (block 20 closed (adds LengthIndication.FragStart 446 ∷ [])) (kept (refused 0 8 ∷ []))
     ∷ []
 
--- "The three length functions refuse 6 for direction 0, before 8; in an add such an element counts 25 or 27 bits."
 abbrev pub augmented : (pattern : ℕ) → Frame18Pattern → MacResource
 augmented p f = header 0 false 0 (DownlinkAddress.Ssi SsiType.Ssi 1) (OptionalAllocation.Element (allocation UlDlAssignment.Augmented p f))
 
+-- "The three length functions refuse 6 for direction 0, before 8; in an add such an element counts 25 or 27 bits."
 abbrev pub directions : Row
 directions =
     check (Answer.AllocationLen (computeLen (allocation UlDlAssignment.Augmented 1 Frame18Pattern.Without))) (Answer.AllocationLen (ChanAllocLen.Refused 6))
