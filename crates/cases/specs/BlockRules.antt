@@ -166,8 +166,8 @@ writersBits =
 abbrev pub addsTo20 : MacResource → ℕ → Answer
 addsTo20 h k = block 20 closed (addsHeader h LengthIndication.Counted k ∷ [])
 
--- "Writes: 13, 8, 9, 10, then 3, 7, 14, 11, 6 in layout order (6 after the patterns), 2 last". Null,
--- encryption mode 1, label 1024 and a good header, each in 489 bits and in 488; content over its slice; and "over 61 octets, marked or counted"
+-- "Writes: 13, 8, 9, 10, then 3, 7, 14, 11, 6 in layout order (6 after the patterns), 2 last". Null, encryption mode 1, label 1024 and a good
+-- header, each in 489 bits and in 488; content over its slice; and a mark: "over 61 octets, marked or counted"
 abbrev pub order : Row
 order =
     check (addsTo20 nullPdu 473) (kept (refused 0 8 ∷ []))

@@ -115,7 +115,7 @@ wrote p n bytes = Answer.Wrote (record { cursor = window p n; answer = Outcome.D
 abbrev pub octets : (octets fill : ℕ) → Bool → Answer
 octets o f flag = Answer.Octets (LenAndFill.Counted (record { 0 = o }) (record { 0 = f }) flag)
 
--- to replace with slot 1 of carrier 1
+-- replace, slot 1, carrier 1
 abbrev pub allocation : UlDlAssignment → (pattern : ℕ) → Frame18Pattern → ChanAllocElement
 allocation d p f =
     record {
