@@ -1,8 +1,10 @@
 -- The rules of document 01's "Block" at their edges, in the form of specs/Cases.antt: a row for each rule, with the sentence that it holds.
--- docs/TRUST.md has the wrong definitions that these rows refuse. `proofs/Cases.antt` computes every row.
-use mathlib.Core.Bool.{true, false}
-use mathlib.Core.List.{List, [], _∷_, _++_}
-use Prim.Native.Nat.{ℕ}
+-- docs/TRUST.md says which wrong definitions each row refuses. `proofs/Cases.antt` computes every row.
+use mathlib.Core.Logic.{_⊎_}
+use mathlib.Core.Bool.{Bool, true, false}
+use mathlib.Core.Option.{none, some}
+use mathlib.Core.List.{List, [], _∷_, _++_, map}
+use Prim.Native.Nat.{ℕ, _≤_, _<_}
 use lib.ListN.{replicate}
 use Rattle.tetra_core.specs.declared.address.SsiType.{SsiType}
 use Rattle.tetra_core.specs.declared.address.DownlinkAddress.{DownlinkAddress}
@@ -16,8 +18,9 @@ use Rattle.mac_resource.specs.declared.mac_resource.HeaderLen.{HeaderLen}
 use Rattle.mac_resource.specs.declared.mac_resource.LenAndFill.{LenAndFill}
 use Rattle.mac_resource.specs.MacResource.{nullPdu, computeHeaderLen, updateLenAndFillInd}
 use Rattle.block_rules.specs.declared.to_add.LengthIndication.{LengthIndication}
+use Rattle.block_rules.specs.Extent.{Spared}
 use Rattle.block_rules.specs.Read.{Reading}
-use Rattle.block_rules.specs.Walk.{Pdu, Entry}
+use Rattle.block_rules.specs.Walk.{Pdu, Entry, place}
 use Rattle.block_rules.specs.Writer.{addOf}
 use Rattle.block_rules.specs.Run.{Call}
 use Rattle.block_rules.specs.Downlink.{DownlinkHeader, HeaderToAdd, resourceToAdd}
@@ -104,8 +107,8 @@ fills =
     ∷ []
 
 -- "fewer than 16 bits left: end"; "A step from a bit past N is refused 13": with 16 bits left, with 15, from N and from N + 1
-abbrev pub places : Row
-places =
+abbrev pub stepsFrom : Row
+stepsFrom =
     check (stepped (second 0x00 0x39) 96 80) (refusedAt 80 PduEnd.Unknown 8 7)
     ∷ check (stepped (second 0x00 0x39) 96 81) (Answer.Step StepAnswer.End)
     ∷ check (stepped (second 0x00 0x39) 96 96) (Answer.Step StepAnswer.End)
@@ -197,5 +200,18 @@ directions =
     ∷ check (addsTo20 (augmented 0 (Frame18Pattern.Pattern 1)) 418) (kept (refused 0 6 ∷ []))
     ∷ []
 
+-- ---- the words of demand 3
+
+-- "Place is the number in the walk, the bit, and the end where there is one"
+abbrev pub places : Row
+places =
+    check (Answer.Places (map place (first ∷ entry 48 (Pdu.null 63) ∷ entry 48 (Pdu.unsized 4 0) ∷ [])))
+    (Answer.Places ((0, some 48) ∷ (48, some 64) ∷ (48, none) ∷ []))
+    ∷ []
+
 abbrev pub blockRules : List Row
-blockRules = lengths ∷ marks ∷ nulls ∷ types ∷ fills ∷ places ∷ limits ∷ finishes ∷ writersBits ∷ order ∷ directions ∷ []
+blockRules = lengths ∷ marks ∷ nulls ∷ types ∷ fills ∷ stepsFrom ∷ limits ∷ finishes ∷ writersBits ∷ order ∷ directions ∷ places ∷ []
+
+-- "sparing that PDU's type, length and address type", bits 0 and 1 and 7 to 15: no other bit is spared
+abbrev pub NoMoreSpared : Type 0
+NoMoreSpared = (bits : List Bool) (i : ℕ) → 2 ≤ i → (i < 7) ⊎ (16 ≤ i) → Spared bits i → ⊥

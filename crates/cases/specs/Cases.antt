@@ -2,6 +2,7 @@
 -- has calls, each with what the definitions give that its contract cites, and what the paper says. `proofs/Cases.antt` computes every row.
 use mathlib.Core.Path.{_≡_}
 use mathlib.Core.Bool.{Bool, true, false}
+use mathlib.Core.Option.{Option}
 use mathlib.Core.List.{List, [], _∷_, _++_, map}
 use Prim.Native.Nat.{ℕ}
 use lib.ListN.{replicate}
@@ -85,6 +86,8 @@ pub data Answer : Type 0 where
   Block : List Written → (bytes : List ℕ) → Walk DownlinkHeader → Answer
   -- one step in a block
   Step : StepAnswer → Answer
+  -- the places of entries, as demand 3 has them
+  Places : List (ℕ × Option ℕ) → Answer
 
 -- a call, and what it should answer
 pub record Check : Type 0 where
