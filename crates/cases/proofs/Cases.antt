@@ -1,5 +1,8 @@
--- Every row of specs/Cases.antt and of specs/BitCalls.antt, computed.
+-- Every row of specs/Cases.antt, specs/BlockRules.antt and specs/BitCalls.antt, computed.
 use mathlib.Core.Path.{refl}
+use mathlib.Core.Logic.{inl, inr}
+use mathlib.Core.List.{_++_}
+use native.Mathlib.Omega.{arith}
 use Rattle.bits.specs.Bits.{odd, val, bitsOfNat, bitsOf, pack, splice, bitsAt, getBits, putBits}
 use Rattle.tetra_core.specs.BitBuffer.{goodWindow, readRefusal, readBits, peekAt, placeOf, intoSliceRefusal, readBitsIntoSlice, slicedBits, roomRefusal, toBitarr, bitarr, writeRefusal, writeBits, written, writeRun, runWritten, copyRefusal, copyBits, copied, fromBitarrRefusal, copyBitsFromBitarr, fromBitarr, windowCount, changed, seekRel, opened}
 use Rattle.tetra_core.specs.Quantity.{octetCount}
@@ -31,18 +34,25 @@ use Rattle.mac_resource.specs.MacResource as resource
 use Rattle.mac_resource.specs.MacResource.{readMacResource, macResourceAt, encryptedRefusal, nullRefusal, fieldsRefusal, macResourceRefusal, headerBits, headerLen, lengthRefusal, computeHeaderLen, updateLenAndFillInd}
 use Rattle.block_rules.specs.Extent.{field, countedExtent, resourceExtent, extentOf, extent}
 use Rattle.block_rules.specs.Read.{extend, beforeLastOne, behindHeader, readOwn, readPdu}
-use Rattle.block_rules.specs.Walk.{goodBlock, stepOf, pduOf, firstPdu, stepAt, step, goOn, follow, walkBy, walkFrom, walk}
+use Rattle.block_rules.specs.Walk.{goodBlock, endFrom, place, stepOf, pduOf, firstPdu, stepAt, step, goOn, follow, walkBy, walkFrom, walk}
 use Rattle.block_rules.specs.Ending.{lengthOf, pduSize}
 use Rattle.block_rules.specs.Writer.{flagOf, fillBits, nullBits, finishBits, goodBit, after, finishRefusal, finished, finishTo, checkOf, refusalOf, addRefusal, addedBits, added, addTo}
 use Rattle.block_rules.specs.Run.{perform, run}
 use Rattle.block_rules.specs.Downlink.{endingOf}
 use Rattle.mac_block.specs.Answers.{sizedEntry, entryOf, stepAnswer, finishAnswer, addAnswer}
-use Rattle.cases.specs.Cases.{Hold, answers, block, cases}
+use Rattle.cases.specs.Cases.{Hold, answers, blockFrom, cases}
+use Rattle.cases.specs.BlockRules.{blockRules, NoMoreSpared}
 use Rattle.cases.specs.BitCalls.{BitCallsHold}
 
-pub cases-hold : Hold cases
-unfolding odd val bitsOfNat bitsOf pack splice bitsAt getBits putBits goodWindow readRefusal readBits opened octetCount first fieldAt within rowBits refusalAt writeAt writtenAt allocTypeOf ulDlOf readMonPatterns readChannelAllocation channelAllocationAt frame18Refusal lenRefusal channelAllocationRefusal channelAllocationBits channelAllocationLen computeLen slotgrantRefusal slotgrantRow uplinkWidth uplinkOf readUplinkAddress uplinkAddressRefusal uplinkAddressRow readUplinkBody readUplinkHead uplinkRefusal uplinkBodyRow uplinkRow accessCodeOf baseFrameLengthOf accessFieldOf trafficRefusal dlUsageOf ulUsageOf accessAssignOf readAccessAssign accessAssignAt accessAssignRow access.readOption readMacAccess macAccessAt macAccessRefusal macAccessRow data'.readOption readMacData macDataAt macDataRefusal macDataRow addrTypeOf readAddress one readBehindType readFixed fixedRow optional readPower readGranting readAllocation readElements elementsRefusal elementsBits readMacResource macResourceAt encryptedRefusal nullRefusal fieldsRefusal resource.addRefusal macResourceRefusal headerBits headerLen lengthRefusal computeHeaderLen updateLenAndFillInd field countedExtent resourceExtent extentOf extent extend beforeLastOne behindHeader readOwn readPdu goodBlock stepOf pduOf firstPdu stepAt step goOn follow walkBy walkFrom walk lengthOf pduSize flagOf fillBits nullBits finishBits goodBit after finishRefusal finished finishTo finishAnswer checkOf refusalOf addRefusal addedBits added addTo addAnswer perform run endingOf sizedEntry entryOf stepAnswer answers block headRow patternsRow readGrantAndAllocation grantAndAllocationRefusal grantAndAllocationBits
-cases-hold = (refl, (refl, (refl, (refl, (refl, (refl, (refl, (refl, (refl, (refl, (refl, (refl, (refl, tt)))))))))))))
+pub cases-hold : Hold (cases ++ blockRules)
+unfolding odd val bitsOfNat bitsOf pack splice bitsAt getBits putBits goodWindow readRefusal readBits opened octetCount first fieldAt within rowBits refusalAt writeAt writtenAt allocTypeOf ulDlOf readMonPatterns readChannelAllocation channelAllocationAt frame18Refusal lenRefusal channelAllocationRefusal channelAllocationBits channelAllocationLen computeLen slotgrantRefusal slotgrantRow uplinkWidth uplinkOf readUplinkAddress uplinkAddressRefusal uplinkAddressRow readUplinkBody readUplinkHead uplinkRefusal uplinkBodyRow uplinkRow accessCodeOf baseFrameLengthOf accessFieldOf trafficRefusal dlUsageOf ulUsageOf accessAssignOf readAccessAssign accessAssignAt accessAssignRow access.readOption readMacAccess macAccessAt macAccessRefusal macAccessRow data'.readOption readMacData macDataAt macDataRefusal macDataRow addrTypeOf readAddress one readBehindType readFixed fixedRow optional readPower readGranting readAllocation readElements elementsRefusal elementsBits readMacResource macResourceAt encryptedRefusal nullRefusal fieldsRefusal resource.addRefusal macResourceRefusal headerBits headerLen lengthRefusal computeHeaderLen updateLenAndFillInd field countedExtent resourceExtent extentOf extent extend beforeLastOne behindHeader readOwn readPdu goodBlock endFrom place stepOf pduOf firstPdu stepAt step goOn follow walkBy walkFrom walk lengthOf pduSize flagOf fillBits nullBits finishBits goodBit after finishRefusal finished finishTo finishAnswer checkOf refusalOf addRefusal addedBits added addTo addAnswer perform run endingOf sizedEntry entryOf stepAnswer answers blockFrom headRow patternsRow readGrantAndAllocation grantAndAllocationRefusal grantAndAllocationBits
+cases-hold = (refl, (refl, (refl, (refl, (refl, (refl, (refl, (refl, (refl, (refl, (refl, (refl, (refl, (refl, (refl, (refl, (refl, (refl, (refl, (refl, (refl, (refl, (refl, (refl, (refl, tt)))))))))))))))))))))))))
+
+pub no-more-spared : NoMoreSpared
+no-more-spared bits i lo (inl h) (inl s) = omega arith
+no-more-spared bits i lo (inl h) (inr s) = omega arith
+no-more-spared bits i lo (inr h) (inl s) = omega arith
+no-more-spared bits i lo (inr h) (inr s) = omega arith
 
 pub bit-calls-hold : BitCallsHold
 unfolding odd val bitsOfNat bitsOf pack splice bitsAt getBits putBits goodWindow first readRefusal readBits peekAt placeOf intoSliceRefusal readBitsIntoSlice slicedBits roomRefusal toBitarr bitarr writeRefusal writeBits written writeRun runWritten copyRefusal copyBits copied fromBitarrRefusal copyBitsFromBitarr fromBitarr windowCount changed seekRel opened octetCount

@@ -1,8 +1,9 @@
 -- Document 01, "Bits to hold against": one row for each case, one for the listing's block, and one for the examples of the refusal table. A row
--- has what the definitions give that the contracts cite, and what the paper says. `proofs/Cases.antt` computes every row.
+-- has calls, each with what the definitions give that its contract cites, and what the paper says. `proofs/Cases.antt` computes every row.
 use mathlib.Core.Path.{_≡_}
 use mathlib.Core.Bool.{Bool, true, false}
-use mathlib.Core.List.{List, [], _∷_, _++_}
+use mathlib.Core.Option.{Option}
+use mathlib.Core.List.{List, [], _∷_, _++_, map}
 use Prim.Native.Nat.{ℕ}
 use lib.ListN.{replicate}
 use Rattle.tetra_core.specs.declared.address.SsiType.{SsiType}
@@ -55,8 +56,8 @@ use Rattle.mac_resource.specs.MacResource.{nullPdu, macResourceAt, macResourceW
 use Rattle.block_rules.specs.declared.to_add.LengthIndication.{LengthIndication}
 use Rattle.block_rules.specs.Read.{Reading}
 use Rattle.block_rules.specs.Walk.{Pdu, Entry, Walk, step, walk}
-use Rattle.block_rules.specs.Writer.{Writer, finishTo, addOf, addTo}
-use Rattle.block_rules.specs.Run.{Call, start, run}
+use Rattle.block_rules.specs.Writer.{Writer, writerAt, finishTo, addOf, addTo}
+use Rattle.block_rules.specs.Run.{Call, run}
 use Rattle.block_rules.specs.Downlink.{DownlinkHeader, downlinkReader, HeaderToAdd, resourceToAdd, downlinkWriter}
 use Rattle.mac_block.specs.declared.reader.BlockEntry.{BlockEntry}
 use Rattle.mac_block.specs.declared.reader.PduEnd.{PduEnd}
@@ -85,15 +86,24 @@ pub data Answer : Type 0 where
   Block : List Written → (bytes : List ℕ) → Walk DownlinkHeader → Answer
   -- one step in a block
   Step : StepAnswer → Answer
+  -- the places of entries, as demand 3 has them
+  Places : List (ℕ × Option ℕ) → Answer
 
-pub record Row : Type 0 where
-  pub computed : List Answer
-  pub stated : List Answer
+-- a call, and what it should answer
+pub record Check : Type 0 where
+  pub computed : Answer
+  pub stated : Answer
+
+abbrev pub check : Answer → Answer → Check
+check x y = record { computed = x; stated = y }
+
+abbrev pub Row : Type 0
+Row = List Check
 
 -- in every row both are the same
 abbrev pub Hold : List Row → Type 0
 Hold [] = Unit {0}
-Hold (x ∷ xs) = (x .computed ≡ x .stated) × Hold xs
+Hold (x ∷ xs) = (map (λ (c : Check). c .computed) x ≡ map (λ (c : Check). c .stated) x) × Hold xs
 
 -- ---- headers and elements
 
@@ -108,6 +118,20 @@ wrote p n bytes = Answer.Wrote (record { cursor = window p n; answer = Outcome.D
 abbrev pub octets : (octets fill : ℕ) → Bool → Answer
 octets o f flag = Answer.Octets (LenAndFill.Counted (record { 0 = o }) (record { 0 = f }) flag)
 
+-- replace, slot 1, carrier 1
+abbrev pub allocation : UlDlAssignment → (pattern : ℕ) → Frame18Pattern → ChanAllocElement
+allocation d p f =
+    record {
+      «alloc_type» = ChanAllocType.Replace;
+      «ts_assigned» = record { ts1 = true; ts2 = false; ts3 = false; ts4 = false };
+      «ul_dl_assigned» = d;
+      «clch_permission» = false;
+      «cell_change_flag» = false;
+      «carrier_num» = 1;
+      «mon_pattern» = p;
+      «frame18_mon_pattern» = f;
+    }
+
 -- ---- blocks: the calls on one, as its contracts have them
 
 unfoldable pub answers : (n : ℕ) → List (Call HeaderToAdd) → Writer → List Written
@@ -115,15 +139,22 @@ answers n [] w = []
 answers n (Call.add a ∷ cs) w = addAnswer downlinkWriter n w a ∷ answers n cs (addTo downlinkWriter n w a)
 answers n (Call.finish ∷ cs) w = finishAnswer n w ∷ answers n cs (finishTo n w)
 
--- a block of n bits in these bytes, after these calls from bit 0 on
-unfoldable pub block : (n : ℕ) → List ℕ → List (Call HeaderToAdd) → Answer
-block n bytes calls =
-    let left = run downlinkWriter n calls (start bytes) in
-    Answer.Block (answers n calls (start bytes)) (left .bytes) (walk downlinkReader (left .bytes) n)
+-- a block of n bits in these bytes, after these calls from bit p on, and from bit 0 on
+unfoldable pub blockFrom : (p n : ℕ) → List ℕ → List (Call HeaderToAdd) → Answer
+blockFrom p n bytes calls =
+    let left = run downlinkWriter n calls (writerAt bytes p) in
+    Answer.Block (answers n calls (writerAt bytes p)) (left .bytes) (walk downlinkReader (left .bytes) n)
 
--- a header with no elements
-abbrev pub plain : (length : ℕ) → (fill : Bool) → (mode : ℕ) → DownlinkAddress → MacResource
-plain l f m a =
+abbrev pub block : (n : ℕ) → List ℕ → List (Call HeaderToAdd) → Answer
+block n bytes calls = blockFrom 0 n bytes calls
+
+-- the step from bit p of a block of n bits in these bytes
+abbrev pub stepped : List ℕ → (n p : ℕ) → Answer
+stepped bytes n p = Answer.Step (stepAnswer (step downlinkReader bytes n p))
+
+-- a header with a channel allocation or none, and no other element
+abbrev pub header : (length : ℕ) → (fill : Bool) → (mode : ℕ) → DownlinkAddress → OptionalAllocation → MacResource
+header l f m a e =
     record {
       «fill_bits» = f;
       «pos_of_grant» = 0;
@@ -133,16 +164,22 @@ plain l f m a =
       addr = a;
       «power_control_element» = OptionalPower.Without;
       «slot_granting_element» = OptionalGrant.Without;
-      «chan_alloc_element» = OptionalAllocation.Without;
+      «chan_alloc_element» = e;
     }
+
+abbrev pub plain : (length : ℕ) → (fill : Bool) → (mode : ℕ) → DownlinkAddress → MacResource
+plain l f m a = header l f m a OptionalAllocation.Without
 
 -- "SSI 1, no elements"
 abbrev pub ssi1 : (length : ℕ) → (fill : Bool) → MacResource
 ssi1 l f = plain l f 0 (DownlinkAddress.Ssi SsiType.Ssi 1)
 
 -- an add of k bits of content, all ones, out of 60 bytes
+abbrev pub addsHeader : MacResource → LengthIndication → ℕ → Call HeaderToAdd
+addsHeader h i k = Call.add (addOf (resourceToAdd h i) (replicate 60 0xff) k)
+
 abbrev pub adds : LengthIndication → ℕ → Call HeaderToAdd
-adds i k = Call.add (addOf (resourceToAdd (ssi1 0 false) i) (replicate 60 0xff) k)
+adds i k = addsHeader (ssi1 0 false) i k
 
 abbrev pub counts : ℕ → Call HeaderToAdd
 counts k = adds LengthIndication.Counted k
@@ -154,15 +191,34 @@ done p = record { bit = p; answer = Outcome.Done }
 abbrev pub refused : (bit number : ℕ) → Written
 refused p j = record { bit = p; answer = Outcome.Refused j }
 
+abbrev pub entry : (bit : ℕ) → Pdu DownlinkHeader → Entry DownlinkHeader
+entry p x = record { bit = p; pdu = x }
+
 -- the entry of a PDU of s bits with such a header, k ones and f bits of fill
 abbrev pub pdu : (bit s l : ℕ) → (flag : Bool) → (k f : ℕ) → Entry DownlinkHeader
-pdu p s l flag k f = record { bit = p; pdu = Pdu.sized s (Reading.read (ssi1 l flag) 43 (replicate k true) f) }
+pdu p s l flag k f = entry p (Pdu.sized s (Reading.read (ssi1 l flag) 43 (replicate k true) f))
 
 abbrev pub null : (bit : ℕ) → Entry DownlinkHeader
-null p = record { bit = p; pdu = Pdu.null 2 }
+null p = entry p (Pdu.null 2)
 
 abbrev pub walked : List (Entry DownlinkHeader) → (rest : ℕ) → Walk DownlinkHeader
 walked es p = record { entries = es; restAt = p }
+
+-- a step's answer: a PDU that is read, with its content's range, one that is null, and one that is refused; or the refusal of the step
+abbrev pub readAt : (bit end : ℕ) → MacResource → (from to : ℕ) → Answer
+readAt p e h a b =
+    Answer.Step
+    (StepAnswer.Entry (BlockEntry.Resource (record { bit = p; end = e; header = h; «content_start» = a; «content_end» = b })))
+
+abbrev pub nullAt : (bit : ℕ) → Answer
+nullAt p = Answer.Step (StepAnswer.Entry (BlockEntry.Null p))
+
+abbrev pub refusedAt : (bit : ℕ) → PduEnd → (number offset : ℕ) → Answer
+refusedAt p e j o =
+    Answer.Step (StepAnswer.Entry (BlockEntry.Refused (record { bit = p; end = e; refusal = record { number = j; offset = o } })))
+
+abbrev pub noStep : (number : ℕ) → Answer
+noStep j = Answer.Step (StepAnswer.Refused (record { number = j; offset = 0 }))
 
 -- the bytes of a PDU of 34 octets less 4 bits: its first two, and ones behind the header
 abbrev pub ones : ℕ → ℕ → List ℕ
@@ -173,97 +229,56 @@ ones a b = a ∷ b ∷ 0x00 ∷ 0x00 ∷ 0x01 ∷ 0x1f ∷ (replicate 27 0xff ++
 -- "Null: 00 10 h."
 abbrev pub case-1 : Row
 case-1 =
-    record {
-      computed =
-          Answer.Wrote (macResourceWrite (0xff ∷ 0xff ∷ []) (window 0 16) nullPdu) (macResourceWritten (0xff ∷ 0xff ∷ []) (window 0 16) nullPdu)
-          ∷ Answer.ReadResource (macResourceAt (0x00 ∷ 0x10 ∷ []) (window 0 16))
-          ∷ block 16 (0xff ∷ 0xff ∷ []) (Call.finish ∷ [])
-          ∷ [];
-      stated =
-          wrote 16 16 (0x00 ∷ 0x10 ∷ [])
-          ∷ Answer.ReadResource (record { cursor = window 16 16; answer = MacResourceAnswer.Read nullPdu })
-          ∷ Answer.Block (done 16 ∷ []) (0x00 ∷ 0x10 ∷ []) (walked (null 0 ∷ []) 16)
-          ∷ [];
-    }
+    check (Answer.Wrote (macResourceWrite (0xff ∷ 0xff ∷ []) (window 0 16) nullPdu) (macResourceWritten (0xff ∷ 0xff ∷ []) (window 0 16) nullPdu))
+    (wrote 16 16 (0x00 ∷ 0x10 ∷ []))
+    ∷ check (Answer.ReadResource (macResourceAt (0x00 ∷ 0x10 ∷ []) (window 0 16)))
+    (Answer.ReadResource (record { cursor = window 16 16; answer = MacResourceAnswer.Read nullPdu }))
+    ∷ check (block 16 (0xff ∷ 0xff ∷ []) (Call.finish ∷ [])) (Answer.Block (done 16 ∷ []) (0x00 ∷ 0x10 ∷ []) (walked (null 0 ∷ []) 16))
+    ∷ []
 
 -- "SSI 1, no elements, no content: 43 bits, 6 octets, 5 fill: 20 31 00 00 01 10 h."
 abbrev pub case-2 : Row
 case-2 =
-    record {
-      computed =
-          Answer.HeaderBits (computeHeaderLen (ssi1 0 false))
-          ∷ Answer.Octets (updateLenAndFillInd (ssi1 0 false) 0)
-          ∷ block 48 (replicate 6 0xff) (counts 0 ∷ [])
-          ∷ Answer.ReadResource (macResourceAt (0x20 ∷ 0x31 ∷ 0x00 ∷ 0x00 ∷ 0x01 ∷ 0x10 ∷ []) (window 0 48))
-          ∷ [];
-      stated =
-          Answer.HeaderBits (HeaderLen.Len (record { 0 = 43 }))
-          ∷ octets 6 5 true
-          ∷ Answer.Block (done 48 ∷ []) (0x20 ∷ 0x31 ∷ 0x00 ∷ 0x00 ∷ 0x01 ∷ 0x10 ∷ []) (walked (pdu 0 48 6 true 0 5 ∷ []) 48)
-          ∷ Answer.ReadResource (record { cursor = window 43 48; answer = MacResourceAnswer.Read (ssi1 6 true) })
-          ∷ [];
-    }
+    check (Answer.HeaderBits (computeHeaderLen (ssi1 0 false))) (Answer.HeaderBits (HeaderLen.Len (record { 0 = 43 })))
+    ∷ check (Answer.Octets (updateLenAndFillInd (ssi1 0 false) 0)) (octets 6 5 true)
+    ∷ check (block 48 (replicate 6 0xff) (counts 0 ∷ []))
+    (Answer.Block (done 48 ∷ []) (0x20 ∷ 0x31 ∷ 0x00 ∷ 0x00 ∷ 0x01 ∷ 0x10 ∷ []) (walked (pdu 0 48 6 true 0 5 ∷ []) 48))
+    ∷ check (Answer.ReadResource (macResourceAt (0x20 ∷ 0x31 ∷ 0x00 ∷ 0x00 ∷ 0x01 ∷ 0x10 ∷ []) (window 0 48)))
+    (Answer.ReadResource (record { cursor = window 43 48; answer = MacResourceAnswer.Read (ssi1 6 true) }))
+    ∷ []
 
 -- "Content 5: 6 octets, fill 0; content 6: 7 octets, fill 7."
 abbrev pub case-3 : Row
 case-3 =
-    record {
-      computed =
-          Answer.Octets (updateLenAndFillInd (ssi1 0 false) 5)
-          ∷ Answer.Octets (updateLenAndFillInd (ssi1 0 false) 6)
-          ∷ block 104 (replicate 13 0) (counts 5 ∷ counts 6 ∷ [])
-          ∷ [];
-      stated =
-          octets 6 0 false
-          ∷ octets 7 7 true
-          ∷ Answer.Block (done 48 ∷ done 104 ∷ [])
-          (0x00 ∷ 0x31 ∷ 0x00 ∷ 0x00 ∷ 0x01 ∷ 0x1f ∷ 0x20 ∷ 0x39 ∷ 0x00 ∷ 0x00 ∷ 0x01 ∷ 0x1f ∷ 0xc0 ∷ [])
-          (walked (pdu 0 48 6 false 5 0 ∷ pdu 48 56 7 true 6 7 ∷ []) 104)
-          ∷ [];
-    }
+    check (Answer.Octets (updateLenAndFillInd (ssi1 0 false) 5)) (octets 6 0 false)
+    ∷ check (Answer.Octets (updateLenAndFillInd (ssi1 0 false) 6)) (octets 7 7 true)
+    ∷ check (block 104 (replicate 13 0) (counts 5 ∷ counts 6 ∷ []))
+    (Answer.Block (done 48 ∷ done 104 ∷ [])
+    (0x00 ∷ 0x31 ∷ 0x00 ∷ 0x00 ∷ 0x01 ∷ 0x1f ∷ 0x20 ∷ 0x39 ∷ 0x00 ∷ 0x00 ∷ 0x01 ∷ 0x1f ∷ 0xc0 ∷ [])
+    (walked (pdu 0 48 6 false 5 0 ∷ pdu 48 56 7 true 6 7 ∷ []) 104))
+    ∷ []
 
 -- "Replace, slot 1, both, carrier 1, pattern 1: 23 00 04 80 h, 25 bits."
 abbrev pub replace : ChanAllocElement
-replace =
-    record {
-      «alloc_type» = ChanAllocType.Replace;
-      «ts_assigned» = record { ts1 = true; ts2 = false; ts3 = false; ts4 = false };
-      «ul_dl_assigned» = UlDlAssignment.Both;
-      «clch_permission» = false;
-      «cell_change_flag» = false;
-      «carrier_num» = 1;
-      «mon_pattern» = 1;
-      «frame18_mon_pattern» = Frame18Pattern.Without;
-    }
+replace = allocation UlDlAssignment.Both 1 Frame18Pattern.Without
 
 abbrev pub case-4 : Row
 case-4 =
-    record {
-      computed =
-          Answer.AllocationLen (computeLen replace)
-          ∷ Answer.Wrote (channelAllocationWrite (replicate 4 0) (window 0 32) replace) (channelAllocationWritten (replicate 4 0) (window 0 32) replace)
-          ∷ Answer.ReadAllocation (channelAllocationAt (0x23 ∷ 0x00 ∷ 0x04 ∷ 0x80 ∷ []) (window 0 32))
-          ∷ [];
-      stated =
-          Answer.AllocationLen (ChanAllocLen.Len (record { 0 = 25 }))
-          ∷ wrote 25 32 (0x23 ∷ 0x00 ∷ 0x04 ∷ 0x80 ∷ [])
-          ∷ Answer.ReadAllocation (record { cursor = window 25 32; answer = ChannelAllocationAnswer.Read replace })
-          ∷ [];
-    }
+    check (Answer.AllocationLen (computeLen replace)) (Answer.AllocationLen (ChanAllocLen.Len (record { 0 = 25 })))
+    ∷ check (Answer.Wrote (channelAllocationWrite (replicate 4 0) (window 0 32) replace) (channelAllocationWritten (replicate 4 0) (window 0 32) replace))
+    (wrote 25 32 (0x23 ∷ 0x00 ∷ 0x04 ∷ 0x80 ∷ []))
+    ∷ check (Answer.ReadAllocation (channelAllocationAt (0x23 ∷ 0x00 ∷ 0x04 ∷ 0x80 ∷ []) (window 0 32)))
+    (Answer.ReadAllocation (record { cursor = window 25 32; answer = ChannelAllocationAnswer.Read replace }))
+    ∷ []
 
 -- "`AccessAssign` default: 06 18 h, 14 bits."
 abbrev pub case-5 : Row
 case-5 =
-    record {
-      computed =
-          Answer.Wrote (accessAssignWrite (0 ∷ 0 ∷ []) (window 0 16) defaultAccessAssign) (accessAssignWritten (0 ∷ 0 ∷ []) (window 0 16) defaultAccessAssign)
-          ∷ Answer.ReadAssign (accessAssignAt (0x06 ∷ 0x18 ∷ []) (window 0 16))
-          ∷ [];
-      stated =
-          wrote 14 16 (0x06 ∷ 0x18 ∷ [])
-          ∷ Answer.ReadAssign (record { cursor = window 14 16; answer = AccessAssignAnswer.Read defaultAccessAssign })
-          ∷ [];
-    }
+    check (Answer.Wrote (accessAssignWrite (0 ∷ 0 ∷ []) (window 0 16) defaultAccessAssign) (accessAssignWritten (0 ∷ 0 ∷ []) (window 0 16) defaultAccessAssign))
+    (wrote 14 16 (0x06 ∷ 0x18 ∷ []))
+    ∷ check (Answer.ReadAssign (accessAssignAt (0x06 ∷ 0x18 ∷ []) (window 0 16)))
+    (Answer.ReadAssign (record { cursor = window 14 16; answer = AccessAssignAnswer.Read defaultAccessAssign }))
+    ∷ []
 
 -- "Header 3, downlink 4, uplink 0: C4 00 h; uplink 2 refused 7 at 8."
 abbrev pub traffic4 : AccessAssign
@@ -271,18 +286,13 @@ traffic4 = AccessAssign.DownlinkDefinedUplinkDefined (AccessAssignDlUsage.Traffi
 
 abbrev pub case-6 : Row
 case-6 =
-    record {
-      computed =
-          Answer.Wrote (accessAssignWrite (0 ∷ 0 ∷ []) (window 0 16) traffic4) (accessAssignWritten (0 ∷ 0 ∷ []) (window 0 16) traffic4)
-          ∷ Answer.ReadAssign (accessAssignAt (0xc4 ∷ 0x00 ∷ []) (window 0 16))
-          ∷ Answer.ReadAssign (accessAssignAt (0xc4 ∷ 0x08 ∷ []) (window 0 16))
-          ∷ [];
-      stated =
-          wrote 14 16 (0xc4 ∷ 0x00 ∷ [])
-          ∷ Answer.ReadAssign (record { cursor = window 14 16; answer = AccessAssignAnswer.Read traffic4 })
-          ∷ Answer.ReadAssign (record { cursor = window 0 16; answer = AccessAssignAnswer.Refused (record { number = 7; offset = 8 }) })
-          ∷ [];
-    }
+    check (Answer.Wrote (accessAssignWrite (0 ∷ 0 ∷ []) (window 0 16) traffic4) (accessAssignWritten (0 ∷ 0 ∷ []) (window 0 16) traffic4))
+    (wrote 14 16 (0xc4 ∷ 0x00 ∷ []))
+    ∷ check (Answer.ReadAssign (accessAssignAt (0xc4 ∷ 0x00 ∷ []) (window 0 16)))
+    (Answer.ReadAssign (record { cursor = window 14 16; answer = AccessAssignAnswer.Read traffic4 }))
+    ∷ check (Answer.ReadAssign (accessAssignAt (0xc4 ∷ 0x08 ∷ []) (window 0 16)))
+    (Answer.ReadAssign (record { cursor = window 0 16; answer = AccessAssignAnswer.Refused (record { number = 7; offset = 8 }) }))
+    ∷ []
 
 -- "MAC-ACCESS, SSI 1, no options: 00 00 00 08 h, 30 bits."
 abbrev pub access1 : MacAccess
@@ -290,16 +300,11 @@ access1 = record { «fill_bits» = false; encrypted = false; addr = UplinkAddres
 
 abbrev pub case-7 : Row
 case-7 =
-    record {
-      computed =
-          Answer.Wrote (macAccessWrite (replicate 4 0) (window 0 32) access1) (macAccessWritten (replicate 4 0) (window 0 32) access1)
-          ∷ Answer.ReadAccess (macAccessAt (0x00 ∷ 0x00 ∷ 0x00 ∷ 0x08 ∷ []) (window 0 32))
-          ∷ [];
-      stated =
-          wrote 30 32 (0x00 ∷ 0x00 ∷ 0x00 ∷ 0x08 ∷ [])
-          ∷ Answer.ReadAccess (record { cursor = window 30 32; answer = MacAccessAnswer.Read access1 })
-          ∷ [];
-    }
+    check (Answer.Wrote (macAccessWrite (replicate 4 0) (window 0 32) access1) (macAccessWritten (replicate 4 0) (window 0 32) access1))
+    (wrote 30 32 (0x00 ∷ 0x00 ∷ 0x00 ∷ 0x08 ∷ []))
+    ∷ check (Answer.ReadAccess (macAccessAt (0x00 ∷ 0x00 ∷ 0x00 ∷ 0x08 ∷ []) (window 0 32)))
+    (Answer.ReadAccess (record { cursor = window 30 32; answer = MacAccessAnswer.Read access1 }))
+    ∷ []
 
 -- "MAC-DATA, label 1, length 5: 04 01 0A h, 23 bits."
 abbrev pub data1 : MacData
@@ -307,65 +312,38 @@ data1 = record { «fill_bits» = false; encrypted = false; addr = UplinkAddress.
 
 abbrev pub case-8 : Row
 case-8 =
-    record {
-      computed =
-          Answer.Wrote (macDataWrite (replicate 3 0) (window 0 24) data1) (macDataWritten (replicate 3 0) (window 0 24) data1)
-          ∷ Answer.ReadData (macDataAt (0x04 ∷ 0x01 ∷ 0x0A ∷ []) (window 0 24))
-          ∷ [];
-      stated =
-          wrote 23 24 (0x04 ∷ 0x01 ∷ 0x0A ∷ [])
-          ∷ Answer.ReadData (record { cursor = window 23 24; answer = MacDataAnswer.Read data1 })
-          ∷ [];
-    }
+    check (Answer.Wrote (macDataWrite (replicate 3 0) (window 0 24) data1) (macDataWritten (replicate 3 0) (window 0 24) data1))
+    (wrote 23 24 (0x04 ∷ 0x01 ∷ 0x0A ∷ []))
+    ∷ check (Answer.ReadData (macDataAt (0x04 ∷ 0x01 ∷ 0x0A ∷ []) (window 0 24)))
+    (Answer.ReadData (record { cursor = window 23 24; answer = MacDataAnswer.Read data1 }))
+    ∷ []
 
 -- "One PDU of 268 bits in 268: length 34, fill clear; 267: fill one bit."
 abbrev pub case-9 : Row
 case-9 =
-    record {
-      computed =
-          block 268 (replicate 34 0) (counts 225 ∷ Call.finish ∷ [])
-          ∷ block 268 (replicate 34 0) (counts 224 ∷ Call.finish ∷ [])
-          ∷ [];
-      stated =
-          Answer.Block (done 268 ∷ done 268 ∷ []) (ones 0x01 0x11) (walked (pdu 0 268 34 false 225 0 ∷ []) 268)
-          ∷ Answer.Block (done 268 ∷ done 268 ∷ []) (ones 0x21 0x11) (walked (pdu 0 268 34 true 224 1 ∷ []) 268)
-          ∷ [];
-    }
+    check (block 268 (replicate 34 0) (counts 225 ∷ Call.finish ∷ []))
+    (Answer.Block (done 268 ∷ done 268 ∷ []) (ones 0x01 0x11) (walked (pdu 0 268 34 false 225 0 ∷ []) 268))
+    ∷ check (block 268 (replicate 34 0) (counts 224 ∷ Call.finish ∷ []))
+    (Answer.Block (done 268 ∷ done 268 ∷ []) (ones 0x21 0x11) (walked (pdu 0 268 34 true 224 1 ∷ []) 268))
+    ∷ []
 
 -- "Read in 268: length 34 accepted, 35 refused 8."
 abbrev pub case-10 : Row
 case-10 =
-    record {
-      computed =
-          Answer.Step (stepAnswer (step downlinkReader (ones 0x01 0x11) 268 0))
-          ∷ Answer.Step (stepAnswer (step downlinkReader (ones 0x01 0x19) 268 0))
-          ∷ [];
-      stated =
-          Answer.Step
-          (StepAnswer.Entry
-          (BlockEntry.Resource
-          (record { bit = 0; end = 268; header = ssi1 34 false; «content_start» = 43; «content_end» = 268 })))
-          ∷ Answer.Step (StepAnswer.Entry (BlockEntry.Refused (record { bit = 0; end = PduEnd.Unknown; refusal = record { number = 8; offset = 7 } })))
-          ∷ [];
-    }
+    check (stepped (ones 0x01 0x11) 268 0) (readAt 0 268 (ssi1 34 false) 43 268)
+    ∷ check (stepped (ones 0x01 0x19) 268 0) (refusedAt 0 PduEnd.Unknown 8 7)
+    ∷ []
 
 -- "488 bits give 61 octets; 489 refused 8."
 abbrev pub case-11 : Row
 case-11 =
-    record {
-      computed =
-          Answer.Octets (updateLenAndFillInd (ssi1 0 false) 445)
-          ∷ Answer.Octets (updateLenAndFillInd (ssi1 0 false) 446)
-          ∷ block 488 (replicate 61 0) (counts 446 ∷ counts 445 ∷ [])
-          ∷ [];
-      stated =
-          octets 61 0 false
-          ∷ Answer.Octets (LenAndFill.Refused 8)
-          ∷ Answer.Block (refused 0 8 ∷ done 488 ∷ [])
-          (0x01 ∷ 0xe9 ∷ 0x00 ∷ 0x00 ∷ 0x01 ∷ 0x1f ∷ replicate 55 0xff)
-          (walked (pdu 0 488 61 false 445 0 ∷ []) 488)
-          ∷ [];
-    }
+    check (Answer.Octets (updateLenAndFillInd (ssi1 0 false) 445)) (octets 61 0 false)
+    ∷ check (Answer.Octets (updateLenAndFillInd (ssi1 0 false) 446)) (Answer.Octets (LenAndFill.Refused 8))
+    ∷ check (block 488 (replicate 61 0) (counts 446 ∷ counts 445 ∷ []))
+    (Answer.Block (refused 0 8 ∷ done 488 ∷ [])
+    (0x01 ∷ 0xe9 ∷ 0x00 ∷ 0x00 ∷ 0x01 ∷ 0x1f ∷ replicate 55 0xff)
+    (walked (pdu 0 488 61 false 445 0 ∷ []) 488))
+    ∷ []
 
 -- "For 124 bits, 20 31 00 00 01 10 00 10 80 then seven 00 h": the block as it is read, and as it is written over ones. Adds refused 8, 2 and 13,
 -- an add after the finish, and a second finish are among the calls, and the four bits past 124 keep their values
@@ -374,26 +352,20 @@ listed last = 0x20 ∷ 0x31 ∷ 0x00 ∷ 0x00 ∷ 0x01 ∷ 0x10 ∷ 0x00 ∷ 0x1
 
 abbrev pub listing : Row
 listing =
-    record {
-      computed =
-          block 124 (listed 0x00) []
-          ∷ block 124 (replicate 16 0xff)
-          (counts 0
-          ∷ counts 446
-          ∷ adds LengthIndication.SecondSlotStolen 34
-          ∷ adds LengthIndication.FragStart 481
-          ∷ Call.finish
-          ∷ adds LengthIndication.FragStart 0
-          ∷ Call.finish
-          ∷ [])
-          ∷ [];
-      stated =
-          Answer.Block [] (listed 0x00) (walked (pdu 0 48 6 true 0 5 ∷ null 48 ∷ []) 64)
-          ∷ Answer.Block (done 48 ∷ refused 48 8 ∷ refused 48 2 ∷ refused 48 13 ∷ done 124 ∷ refused 124 2 ∷ done 124 ∷ [])
-          (listed 0x0f)
-          (walked (pdu 0 48 6 true 0 5 ∷ null 48 ∷ []) 64)
-          ∷ [];
-    }
+    check (block 124 (listed 0x00) []) (Answer.Block [] (listed 0x00) (walked (pdu 0 48 6 true 0 5 ∷ null 48 ∷ []) 64))
+    ∷ check (block 124 (replicate 16 0xff)
+    (counts 0
+    ∷ counts 446
+    ∷ adds LengthIndication.SecondSlotStolen 34
+    ∷ adds LengthIndication.FragStart 481
+    ∷ Call.finish
+    ∷ adds LengthIndication.FragStart 0
+    ∷ Call.finish
+    ∷ []))
+    (Answer.Block (done 48 ∷ refused 48 8 ∷ refused 48 2 ∷ refused 48 13 ∷ done 124 ∷ refused 124 2 ∷ done 124 ∷ [])
+    (listed 0x0f)
+    (walked (pdu 0 48 6 true 0 5 ∷ null 48 ∷ []) 64))
+    ∷ []
 
 -- a write that is refused leaves the cursor at 0 and the bytes
 abbrev pub notWritten : (number n : ℕ) → List ℕ → Answer
@@ -404,17 +376,7 @@ resourceWritten h = Answer.Wrote (macResourceWrite (replicate 6 0) (window 0 48)
 
 -- "pattern 0, none"
 abbrev pub patternless : ChanAllocElement
-patternless =
-    record {
-      «alloc_type» = ChanAllocType.Replace;
-      «ts_assigned» = record { ts1 = true; ts2 = false; ts3 = false; ts4 = false };
-      «ul_dl_assigned» = UlDlAssignment.Both;
-      «clch_permission» = false;
-      «cell_change_flag» = false;
-      «carrier_num» = 1;
-      «mon_pattern» = 0;
-      «frame18_mon_pattern» = Frame18Pattern.Without;
-    }
+patternless = allocation UlDlAssignment.Both 0 Frame18Pattern.Without
 
 -- "delay count 14"
 abbrev pub delay14 : BasicSlotgrant
@@ -424,36 +386,25 @@ delay14 = record { «capacity_allocation» = BasicSlotgrantCapAlloc.Grant4Slots;
 -- 6 "direction 0"; 9 "null, fill set"; 10 "mode 1, SSI 1"; 11; 12 "all zeros"; 13 "count 9, one byte"; 14. Those of 7 and 8 are cases 6 and 11
 abbrev pub refusals : Row
 refusals =
-    record {
-      computed =
-          Answer.ReadField (readBits (0xff ∷ []) (window 5 8) 4)
-          ∷ block 268 (replicate 34 0) (counts 226 ∷ [])
-          ∷ resourceWritten (plain 6 false 0 (DownlinkAddress.EventLabel 1024))
-          ∷ Answer.ReadResource (macResourceAt (0x40 ∷ 0x00 ∷ []) (window 0 16))
-          ∷ Answer.ReadAllocation (channelAllocationAt (0x23 ∷ 0x00 ∷ 0x06 ∷ 0x80 ∷ []) (window 0 32))
-          ∷ Answer.ReadAllocation (channelAllocationAt (0x20 ∷ 0x00 ∷ 0x04 ∷ 0x80 ∷ []) (window 0 32))
-          ∷ resourceWritten (plain 2 true 0 DownlinkAddress.NullPdu)
-          ∷ resourceWritten (plain 6 false 1 (DownlinkAddress.Ssi SsiType.Ssi 1))
-          ∷ Answer.Wrote (channelAllocationWrite (replicate 4 0) (window 0 32) patternless) (channelAllocationWritten (replicate 4 0) (window 0 32) patternless)
-          ∷ Answer.Step (stepAnswer (step downlinkReader (0x20 ∷ 0x31 ∷ 0x00 ∷ 0x00 ∷ 0x01 ∷ 0x00 ∷ []) 48 0))
-          ∷ Answer.OpenedWindow (opened 1 9)
-          ∷ Answer.Wrote (slotgrantWrite (0xff ∷ []) (window 0 8) delay14) (slotgrantWritten (0xff ∷ []) (window 0 8) delay14)
-          ∷ [];
-      stated =
-          Answer.ReadField (record { cursor = window 5 8; answer = BitsAnswer.Refused (record { number = 1; offset = 0 }) })
-          ∷ Answer.Block (refused 0 2 ∷ []) (replicate 34 0) (walked (record { bit = 0; pdu = Pdu.null 0 } ∷ []) 16)
-          ∷ notWritten 3 48 (replicate 6 0)
-          ∷ Answer.ReadResource (record { cursor = window 0 16; answer = MacResourceAnswer.Refused (record { number = 4; offset = 0 }) })
-          ∷ Answer.ReadAllocation (record { cursor = window 0 32; answer = ChannelAllocationAnswer.Refused (record { number = 5; offset = 22 }) })
-          ∷ Answer.ReadAllocation (record { cursor = window 0 32; answer = ChannelAllocationAnswer.Refused (record { number = 6; offset = 6 }) })
-          ∷ notWritten 9 48 (replicate 6 0)
-          ∷ notWritten 10 48 (replicate 6 0)
-          ∷ notWritten 11 32 (replicate 4 0)
-          ∷ Answer.Step (StepAnswer.Entry (BlockEntry.Refused (record { bit = 0; end = PduEnd.At 48; refusal = record { number = 12; offset = 43 } })))
-          ∷ Answer.OpenedWindow (Opened.Refused (record { number = 13; offset = 0 }))
-          ∷ notWritten 14 8 (0xff ∷ [])
-          ∷ [];
-    }
+    check (Answer.ReadField (readBits (0xff ∷ []) (window 5 8) 4))
+    (Answer.ReadField (record { cursor = window 5 8; answer = BitsAnswer.Refused (record { number = 1; offset = 0 }) }))
+    ∷ check (block 268 (replicate 34 0) (counts 226 ∷ [])) (Answer.Block (refused 0 2 ∷ []) (replicate 34 0) (walked (entry 0 (Pdu.null 0) ∷ []) 16))
+    ∷ check (resourceWritten (plain 6 false 0 (DownlinkAddress.EventLabel 1024))) (notWritten 3 48 (replicate 6 0))
+    ∷ check (Answer.ReadResource (macResourceAt (0x40 ∷ 0x00 ∷ []) (window 0 16)))
+    (Answer.ReadResource (record { cursor = window 0 16; answer = MacResourceAnswer.Refused (record { number = 4; offset = 0 }) }))
+    ∷ check (Answer.ReadAllocation (channelAllocationAt (0x23 ∷ 0x00 ∷ 0x06 ∷ 0x80 ∷ []) (window 0 32)))
+    (Answer.ReadAllocation (record { cursor = window 0 32; answer = ChannelAllocationAnswer.Refused (record { number = 5; offset = 22 }) }))
+    ∷ check (Answer.ReadAllocation (channelAllocationAt (0x20 ∷ 0x00 ∷ 0x04 ∷ 0x80 ∷ []) (window 0 32)))
+    (Answer.ReadAllocation (record { cursor = window 0 32; answer = ChannelAllocationAnswer.Refused (record { number = 6; offset = 6 }) }))
+    ∷ check (resourceWritten (plain 2 true 0 DownlinkAddress.NullPdu)) (notWritten 9 48 (replicate 6 0))
+    ∷ check (resourceWritten (plain 6 false 1 (DownlinkAddress.Ssi SsiType.Ssi 1))) (notWritten 10 48 (replicate 6 0))
+    ∷ check (Answer.Wrote (channelAllocationWrite (replicate 4 0) (window 0 32) patternless) (channelAllocationWritten (replicate 4 0) (window 0 32) patternless))
+    (notWritten 11 32 (replicate 4 0))
+    ∷ check (stepped (0x20 ∷ 0x31 ∷ 0x00 ∷ 0x00 ∷ 0x01 ∷ 0x00 ∷ []) 48 0) (refusedAt 0 (PduEnd.At 48) 12 43)
+    ∷ check (Answer.OpenedWindow (opened 1 9)) (Answer.OpenedWindow (Opened.Refused (record { number = 13; offset = 0 })))
+    ∷ check (Answer.Wrote (slotgrantWrite (0xff ∷ []) (window 0 8) delay14) (slotgrantWritten (0xff ∷ []) (window 0 8) delay14))
+    (notWritten 14 8 (0xff ∷ []))
+    ∷ []
 
 abbrev pub cases : List Row
 cases = case-1 ∷ case-2 ∷ case-3 ∷ case-4 ∷ case-5 ∷ case-6 ∷ case-7 ∷ case-8 ∷ case-9 ∷ case-10 ∷ case-11 ∷ listing ∷ refusals ∷ []
