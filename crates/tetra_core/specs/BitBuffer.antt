@@ -2,7 +2,7 @@
 use Prim.Native.Nat.{ℕ, zero, suc, _+_, _-_, _*_, _^_}
 use mathlib.Core.List.{List, [], _∷_, _++_, map}
 use mathlib.Core.Bool.{Bool, true, false, _&&_}
-use lib.ListN.{length, replicate}
+use lib.ListN.{length, replicate, drop}
 use lib.IntN.{ℤ, pos, negsuc, _+ℤ_}
 use lib.Dec.{leb, ltb}
 use Rattle.bits.specs.Bits.{digit, odd, bitsAt, getBits, putBits, bitsOfNat}
@@ -123,6 +123,21 @@ toBitarr s c buf = reads (roomRefusal 1 (length s) c (length buf)) (length buf) 
 unfoldable pub bitarr : List ℕ → Cursor → List ℕ → List ℕ
 bitarr s c buf = bytesAfter (roomRefusal 1 (length s) c (length buf)) buf (map digit (bitsAt s (c .pos) (length buf)))
 
+-- the whole window, wherever its cursor is: a byte 0 or 1 for each bit, in the first bytes of buf
+abbrev pub windowLen : Cursor → ℕ
+windowLen c = c .end - c .start
+
+unfoldable pub bitvecRefusal : ℕ → Cursor → ℕ → ℕ
+bitvecRefusal len c room = first (unless (goodWindow len c) 13 ∷ unless (leb (windowLen c) room) 2 ∷ [])
+
+unfoldable pub intoBitvec : List ℕ → Cursor → List ℕ → BitsRead
+intoBitvec s c buf = reads (bitvecRefusal (length s) c (length buf)) (windowLen c) c c
+
+unfoldable pub bitvec : List ℕ → Cursor → List ℕ → List ℕ
+bitvec s c buf =
+    bytesAfter (bitvecRefusal (length s) c (length buf)) buf
+    (map digit (bitsAt s (c .start) (windowLen c)) ++ drop (windowLen c) buf)
+
 -- ---- writes
 
 -- "Write checks: width over 64, then value, then end."
@@ -136,7 +151,7 @@ writeBits s c v n = moves (writeRefusal (length s) c v n) c (moved c n)
 unfoldable pub written : List ℕ → Cursor → ℕ → ℕ → List ℕ
 written s c v n = bytesAfter (writeRefusal (length s) c v n) s (putBits s (c .pos) (bitsOfNat n v))
 
--- n bits that are all b, as many as the window has room for
+-- n bits that are all b; more than 64 too, if the window has room for all
 unfoldable pub writeRun : List ℕ → Cursor → ℕ → Moved
 writeRun s c n = moves (roomRefusal 2 (length s) c n) c (moved c n)
 
