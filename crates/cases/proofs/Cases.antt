@@ -1,7 +1,7 @@
 -- Every row of specs/Cases.antt and of specs/BitCalls.antt, computed.
 use mathlib.Core.Path.{refl}
 use Rattle.bits.specs.Bits.{odd, val, bitsOfNat, bitsOf, pack, splice, bitsAt, getBits, putBits}
-use Rattle.tetra_core.specs.BitBuffer.{goodWindow, readRefusal, readBits, peekAt, placeOf, intoSliceRefusal, readBitsIntoSlice, slicedBits, roomRefusal, toBitarr, bitarr, writeRefusal, writeBits, written, writeRun, runWritten, copyRefusal, copyBits, copied, fromBitarrRefusal, copyBitsFromBitarr, fromBitarr, windowCount, changed, seekRel, opened}
+use Rattle.tetra_core.specs.BitBuffer.{goodWindow, readRefusal, readBits, peekAt, placeOf, intoSliceRefusal, readBitsIntoSlice, slicedBits, roomRefusal, toBitarr, bitarr, bitvecRefusal, intoBitvec, bitvec, writeRefusal, writeBits, written, writeRun, runWritten, copyRefusal, copyBits, copied, fromBitarrRefusal, copyBitsFromBitarr, fromBitarr, windowCount, changed, seekRel, opened}
 use Rattle.tetra_core.specs.Quantity.{octetCount}
 use Rattle.tetra_core.specs.Refusal.{first}
 use Rattle.codec.specs.Reader.{fieldAt}
@@ -45,5 +45,5 @@ unfolding odd val bitsOfNat bitsOf pack splice bitsAt getBits putBits goodWindow
 cases-hold = (refl, (refl, (refl, (refl, (refl, (refl, (refl, (refl, (refl, (refl, (refl, (refl, (refl, tt)))))))))))))
 
 pub bit-calls-hold : BitCallsHold
-unfolding odd val bitsOfNat bitsOf pack splice bitsAt getBits putBits goodWindow first readRefusal readBits peekAt placeOf intoSliceRefusal readBitsIntoSlice slicedBits roomRefusal toBitarr bitarr writeRefusal writeBits written writeRun runWritten copyRefusal copyBits copied fromBitarrRefusal copyBitsFromBitarr fromBitarr windowCount changed seekRel opened octetCount
+unfolding odd val bitsOfNat bitsOf pack splice bitsAt getBits putBits goodWindow first readRefusal readBits peekAt placeOf intoSliceRefusal readBitsIntoSlice slicedBits roomRefusal toBitarr bitarr bitvecRefusal intoBitvec bitvec writeRefusal writeBits written writeRun runWritten copyRefusal copyBits copied fromBitarrRefusal copyBitsFromBitarr fromBitarr windowCount changed seekRel opened octetCount
 bit-calls-hold = refl

@@ -343,7 +343,6 @@ pub fn len_refusal(e: ChanAllocElement) -> u8
     }
 }
 
-// Why a channel allocation is not written, or 0.
 pub fn channel_allocation_refusal(e: ChanAllocElement) -> u8
     ensures { λ r. ⌜ r ≡ channelAllocationRefusal e ⌝ }
 {
@@ -412,7 +411,6 @@ pub fn channel_allocation_word(e: ChanAllocElement) -> u64
     x
 }
 
-// A channel allocation on its way to being written.
 fn channel_allocation_encoded(e: ChanAllocElement) -> Encoded
     ensures { λ r. ⌜ EncodesOne (channelAllocationRefusal e) (channelAllocationLen e) (channelAllocationBits e) r ⌝ }
 {

@@ -38,7 +38,7 @@ moved c n = at c (c .pos + n)
 
 -- ---- the forms of an answer, where the number of its refusal is j, or 0 if nothing refuses it
 
--- a number; "a bare field or peek gives 0" for the place of its refusal
+-- a number; "A bare field or peek gives 0" for the place of its refusal
 abbrev pub answer : ℕ → ℕ → BitsAnswer
 answer zero v = Value v
 answer (suc j) v = Refused (record { number = suc j; offset = 0 })
@@ -48,7 +48,7 @@ abbrev pub after : ℕ → Cursor → Cursor → Cursor
 after zero c d = d
 after (suc j) c d = c
 
--- what a call that writes, copies or moves says: "a write refusal is its number alone"
+-- what a call that writes, copies or moves says: "A write or length refusal is its number alone"
 abbrev pub outcome : ℕ → Outcome
 outcome zero = Outcome'.Done
 outcome (suc j) = Outcome'.Refused (suc j)
@@ -99,7 +99,7 @@ peekPlace s c Place'.Before n = reads (first (unless (goodWindow (length s) c) 1
 unfoldable pub peekBitsPosoffset : List ℕ → Cursor → ℤ → ℕ → BitsRead
 peekBitsPosoffset s c o n = peekPlace s c (placeOf (signed (c .pos) +ℤ o)) n
 
--- n bits as bytes, the last one filled up with zeros; "short source: 1; short destination: 2"
+-- n bits as bytes, the last one filled up with zeros: 1 where the source is too short, 2 where the destination is
 unfoldable pub intoSliceRefusal : ℕ → Cursor → ℕ → ℕ → ℕ
 intoSliceRefusal len c n room =
     first (unless (goodWindow len c) 13 ∷ unless (leb n (remaining c)) 1 ∷ unless (leb (octetsOf n) room) 2 ∷ [])
@@ -176,7 +176,7 @@ copyBits t d s c n =
 unfoldable pub copied : List ℕ → Cursor → List ℕ → Cursor → ℕ → List ℕ
 copied t d s c n = bytesAfter (copyRefusal (length t) d (length s) c n) t (putBits t (d .pos) (bitsAt s (c .pos) n))
 
--- each byte of buf is a bit: "a value that is no bit: 3"
+-- each byte of buf is a bit
 abbrev pub areBits : List ℕ → Bool
 areBits [] = true
 areBits (b ∷ bs) = ltb b 2 && areBits bs
@@ -196,7 +196,7 @@ fromBitarr s c buf = bytesAfter (fromBitarrRefusal (length s) c buf) s (putBits 
 unfoldable pub windowCount : ℕ → Cursor → ℕ → BitsAnswer
 windowCount len c v = answer (unless (goodWindow len c) 13) v
 
--- a window changed into d: "a window that would be bad: 13"
+-- a window changed into d, which has to be good too
 unfoldable pub changed : ℕ → Cursor → Cursor → Moved
 changed len c d = moves (unless (goodWindow len c && goodWindow len d) 13) c d
 

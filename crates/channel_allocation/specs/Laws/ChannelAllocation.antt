@@ -139,7 +139,7 @@ module _ (e : ChanAllocElement) (h : channelAllocationRefusal e ≡ 0) where
     ),
   )
 
-  -- "every accepted write has that length"
+  -- a write that is accepted has the length that is computed
   pub channel-allocation-counted : computeLen e ≡ ChanAllocLen.Len (record { 0 = length (channelAllocationBits e) })
   unfolding computeLen
   channel-allocation-counted = rw (channel-allocation-told .3, channel-allocation-length e)
