@@ -216,7 +216,8 @@ unfolding ulDlOf
 ul-dl-free zero h z = absurd (z refl)
 ul-dl-free (suc zero) h z = refl
 ul-dl-free (suc (suc zero)) h z = refl
-ul-dl-free (suc (suc (suc v))) h z = refl
+ul-dl-free (suc (suc (suc zero))) h z = refl
+ul-dl-free (suc (suc (suc (suc v)))) h z = absurd (omega arith)
 
 -- an element is not refused, it is in normal form, and its bits are xs
 abbrev pub ChannelAllocationAgain : ChanAllocElement → List Bool → Type 0
