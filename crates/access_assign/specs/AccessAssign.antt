@@ -1,4 +1,4 @@
--- ACCESS-ASSIGN (document 01): "Header 2, field one 6, field two 6. Header 0: two access fields. Headers 1 and 2: downlink usage, access
+-- ACCESS-ASSIGN (document 01): "Header 2, field one 6, field two 6. Header 0: two access fields .. Headers 1 and 2: downlink usage, access
 -- field. Header 3: downlink usage, uplink usage."
 use Prim.Native.Nat.{ℕ, _+_}
 use mathlib.Core.Path.{_≡_}

@@ -1,11 +1,17 @@
 -- An access field (document 01): "code 2, base frame length 4, as `into_raw`; all 64 values read". It is one field of 6 bits.
 use Prim.Native.Nat.{ℕ, _+_, _*_, _/_, _%_}
 use mathlib.Core.List.{List, [], _∷_}
+use mathlib.Core.Bool.{cond}
 use lib.ListN.{getD}
+use lib.Dec.{leb}
 use Rattle.access_assign.specs.declared.enums.access_code.AccessCode.{AccessCode}
 use Rattle.access_assign.specs.declared.enums.access_code.AccessCode.the-variants.{AccessCodeA, AccessCodeB, AccessCodeC, AccessCodeD}
+use Rattle.access_assign.specs.declared.enums.access_code.AccessCodeCase.{AccessCodeCase}
+use Rattle.access_assign.specs.declared.enums.access_code.AccessCodeCase.the-variants as AccessCodeCase'
 use Rattle.access_assign.specs.declared.structs.base_frame_length.BaseFrameLength.{BaseFrameLength}
 use Rattle.access_assign.specs.declared.structs.base_frame_length.BaseFrameLength.the-variants.{ReservedSubslot, CLCHSubslot, OngoingFrame, Subslots1, Subslots2, Subslots3, Subslots4, Subslots5, Subslots6, Subslots8, Subslots10, Subslots12, Subslots16, Subslots20, Subslots24, Subslots32}
+use Rattle.access_assign.specs.declared.structs.base_frame_length.BaseFrameLengthCase.{BaseFrameLengthCase}
+use Rattle.access_assign.specs.declared.structs.base_frame_length.BaseFrameLengthCase.the-variants as BaseFrameLengthCase'
 use Rattle.access_assign.specs.declared.structs.access_field.AccessField.{AccessField}
 
 -- ---- the number of each case
@@ -20,8 +26,13 @@ accessCodeNumber AccessCodeD = 3
 abbrev pub accessCodes : List AccessCode
 accessCodes = AccessCodeA ∷ AccessCodeB ∷ AccessCodeC ∷ []
 
+-- the case of a field's bits, the low 2 of a number
 unfoldable pub accessCodeOf : ℕ → AccessCode
-accessCodeOf v = getD accessCodes v AccessCodeD
+accessCodeOf v = getD accessCodes (v % 4) AccessCodeD
+
+-- of a number, where it is one of 2 bits
+abbrev pub accessCodeCase : ℕ → AccessCodeCase
+accessCodeCase v = cond (leb v 3) (AccessCodeCase'.Case (accessCodeOf v)) AccessCodeCase'.Nothing
 
 abbrev pub baseFrameLengthNumber : BaseFrameLength → ℕ
 baseFrameLengthNumber ReservedSubslot = 0
@@ -61,8 +72,13 @@ baseFrameLengths =
     ∷ Subslots24
     ∷ []
 
+-- the case of a field's bits, the low 4 of a number
 unfoldable pub baseFrameLengthOf : ℕ → BaseFrameLength
-baseFrameLengthOf v = getD baseFrameLengths v Subslots32
+baseFrameLengthOf v = getD baseFrameLengths (v % 16) Subslots32
+
+-- of a number, where it is one of 4 bits
+abbrev pub baseFrameLengthCase : ℕ → BaseFrameLengthCase
+baseFrameLengthCase v = cond (leb v 15) (BaseFrameLengthCase'.Case (baseFrameLengthOf v)) BaseFrameLengthCase'.Nothing
 
 -- ---- the field
 

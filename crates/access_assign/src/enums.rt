@@ -1,4 +1,4 @@
-// Each enum of a field, with the number of each of its cases.
+// The enums of an ACCESS-ASSIGN's fields, and what both usages share.
 use tetra_core::refusal;
 ghost use mathlib.Core.Path.{_≡_};
 ghost use Rattle.access_assign.specs.Usage.{trafficRefusal};

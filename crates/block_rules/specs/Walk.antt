@@ -35,7 +35,7 @@ module _ {H : Type 0} where
   endFrom p (Pdu.sized s r) = some (p + s)
   endFrom p (Pdu.unsized j o) = none
 
-  -- "Place is .. the bit, and the end where there is one."
+  -- "Place is .. the bit, and the end where there is one"
   unfoldable pub place : Entry H → ℕ × Option ℕ
   place e = (e .bit, endFrom (e .bit) (e .pdu))
 

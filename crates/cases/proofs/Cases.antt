@@ -4,7 +4,7 @@ use mathlib.Core.Logic.{inl, inr}
 use mathlib.Core.List.{_++_}
 use native.Mathlib.Omega.{arith}
 use Rattle.bits.specs.Bits.{odd, val, bitsOfNat, bitsOf, pack, splice, bitsAt, getBits, putBits}
-use Rattle.tetra_core.specs.BitBuffer.{goodWindow, readRefusal, readBits, peekAt, placeOf, intoSliceRefusal, readBitsIntoSlice, slicedBits, roomRefusal, toBitarr, bitarr, writeRefusal, writeBits, written, writeRun, runWritten, copyRefusal, copyBits, copied, fromBitarrRefusal, copyBitsFromBitarr, fromBitarr, windowCount, changed, seekRel, opened}
+use Rattle.tetra_core.specs.BitBuffer.{goodWindow, readRefusal, readBits, peekAt, placeOf, intoSliceRefusal, readBitsIntoSlice, slicedBits, roomRefusal, toBitarr, bitarr, bitvecRefusal, intoBitvec, bitvec, writeRefusal, writeBits, written, writeRun, runWritten, copyRefusal, copyBits, copied, fromBitarrRefusal, copyBitsFromBitarr, fromBitarr, windowCount, changed, seekRel, opened}
 use Rattle.tetra_core.specs.Quantity.{octetCount}
 use Rattle.tetra_core.specs.Refusal.{first}
 use Rattle.codec.specs.Reader.{fieldAt}
@@ -55,5 +55,5 @@ no-more-spared bits i lo (inr h) (inl s) = omega arith
 no-more-spared bits i lo (inr h) (inr s) = omega arith
 
 pub bit-calls-hold : BitCallsHold
-unfolding odd val bitsOfNat bitsOf pack splice bitsAt getBits putBits goodWindow first readRefusal readBits peekAt placeOf intoSliceRefusal readBitsIntoSlice slicedBits roomRefusal toBitarr bitarr writeRefusal writeBits written writeRun runWritten copyRefusal copyBits copied fromBitarrRefusal copyBitsFromBitarr fromBitarr windowCount changed seekRel opened octetCount
+unfolding odd val bitsOfNat bitsOf pack splice bitsAt getBits putBits goodWindow first readRefusal readBits peekAt placeOf intoSliceRefusal readBitsIntoSlice slicedBits roomRefusal toBitarr bitarr bitvecRefusal intoBitvec bitvec writeRefusal writeBits written writeRun runWritten copyRefusal copyBits copied fromBitarrRefusal copyBitsFromBitarr fromBitarr windowCount changed seekRel opened octetCount
 bit-calls-hold = refl

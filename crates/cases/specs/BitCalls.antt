@@ -6,7 +6,7 @@ use mathlib.Core.List.{List, [], _∷_, _++_, map}
 use Prim.Native.Nat.{ℕ, _+_, _*_, _-_}
 use lib.ListN.{replicate}
 use lib.IntN.{pos, negsuc}
-use Rattle.tetra_core.specs.BitBuffer.{at, readBits, peekAt, readBitsIntoSlice, slicedBits, toBitarr, bitarr, writeBits, written, writeRun, runWritten, copyBits, copied, copyBitsFromBitarr, fromBitarr, windowCount, changed, seekRel, opened}
+use Rattle.tetra_core.specs.BitBuffer.{at, readBits, peekAt, readBitsIntoSlice, slicedBits, toBitarr, bitarr, intoBitvec, bitvec, writeBits, written, writeRun, runWritten, copyBits, copied, copyBitsFromBitarr, fromBitarr, windowCount, changed, seekRel, opened}
 use Rattle.tetra_core.specs.Quantity.{octetCount}
 use Rattle.tetra_core.specs.declared.bitbuffer.Cursor.{Cursor}
 use Rattle.tetra_core.specs.declared.bitbuffer.BitsAnswer.{BitsAnswer}
@@ -91,7 +91,8 @@ reads =
     ∷ check (Read (peekAt sample bad (8 + 0) 1)) (Read (refuses 13 bad))
     ∷ []
 
--- read_bits_into_slice and to_bitarr: eight bits a byte, the last filled up with zeros, and one a byte
+-- read_bits_into_slice: eight bits a byte, the last filled up with zeros; to_bitarr and into_bitvec: one a byte, from the cursor on and the
+-- whole window
 abbrev pub into : List Check
 into =
     check (ReadInto (readBitsIntoSlice sample (cursor 0 4 136) 1 (replicate 10 0xff)) (slicedBits sample (cursor 0 4 136) 1 (replicate 10 0xff))) (ReadInto (value 1 (cursor 0 5 136)) (0x00 ∷ replicate 9 0xff))
@@ -102,6 +103,9 @@ into =
     ∷ check (ReadInto (readBitsIntoSlice sample bad 1 (replicate 10 0xff)) (slicedBits sample bad 1 (replicate 10 0xff))) (ReadInto (refuses 13 bad) (replicate 10 0xff))
     ∷ check (ReadInto (toBitarr sample (cursor 0 127 136) (replicate 9 9)) (bitarr sample (cursor 0 127 136) (replicate 9 9))) (ReadInto (value 9 (cursor 0 136 136)) (1 ∷ 0 ∷ 1 ∷ 0 ∷ 1 ∷ 1 ∷ 0 ∷ 1 ∷ 0 ∷ []))
     ∷ check (ReadInto (toBitarr sample (cursor 0 128 136) (replicate 9 9)) (bitarr sample (cursor 0 128 136) (replicate 9 9))) (ReadInto (refuses 1 (cursor 0 128 136)) (replicate 9 9))
+    ∷ check (ReadInto (intoBitvec (0xa5 ∷ []) (cursor 1 1 2) (replicate 2 9)) (bitvec (0xa5 ∷ []) (cursor 1 1 2) (replicate 2 9))) (ReadInto (value 1 (cursor 1 1 2)) (0 ∷ 9 ∷ []))
+    ∷ check (ReadInto (intoBitvec (0xa5 ∷ []) (cursor 4 6 8) (replicate 4 9)) (bitvec (0xa5 ∷ []) (cursor 4 6 8) (replicate 4 9))) (ReadInto (value 4 (cursor 4 6 8)) (0 ∷ 1 ∷ 0 ∷ 1 ∷ []))
+    ∷ check (ReadInto (intoBitvec (0xa5 ∷ []) (cursor 4 6 8) (replicate 3 9)) (bitvec (0xa5 ∷ []) (cursor 4 6 8) (replicate 3 9))) (ReadInto (refuses 2 (cursor 4 6 8)) (replicate 3 9))
     ∷ []
 
 -- write_bit, write_zeroes and write_ones

@@ -5,7 +5,7 @@ use Prim.Native.Nat.{ℕ, zero, suc, _+_, _*_, _/_, _%_, _^_}
 use mathlib.Core.List.{List, [], _∷_, _++_}
 use mathlib.Core.Bool.{Bool, cond}
 use lib.ListN.{getD}
-use lib.Dec.{eqb, ltb}
+use lib.Dec.{eqb, leb, ltb}
 use Rattle.bits.specs.Bits.{digit}
 use Rattle.tetra_core.specs.Refusal.{unless, first}
 use Rattle.tetra_core.specs.declared.bitbuffer.Cursor.{Cursor}
@@ -18,8 +18,12 @@ use Rattle.codec.specs.Write.{writeAt, writtenAt}
 use Rattle.codec.specs.Cases.{flag}
 use Rattle.channel_allocation.specs.declared.enums.alloc_type.ChanAllocType.{ChanAllocType}
 use Rattle.channel_allocation.specs.declared.enums.alloc_type.ChanAllocType.the-variants.{Replace, Additional, QuitAndGo, ReplaceWithCarrierSignalling}
+use Rattle.channel_allocation.specs.declared.enums.alloc_type.AllocTypeCase.{AllocTypeCase}
+use Rattle.channel_allocation.specs.declared.enums.alloc_type.AllocTypeCase.the-variants as AllocTypeCase'
 use Rattle.channel_allocation.specs.declared.enums.ul_dl_assignment.UlDlAssignment.{UlDlAssignment}
 use Rattle.channel_allocation.specs.declared.enums.ul_dl_assignment.UlDlAssignment.the-variants.{Augmented, Dl, Ul, Both}
+use Rattle.channel_allocation.specs.declared.enums.ul_dl_assignment.UlDlCase.{UlDlCase}
+use Rattle.channel_allocation.specs.declared.enums.ul_dl_assignment.UlDlCase.the-variants as UlDlCase'
 use Rattle.channel_allocation.specs.declared.channel_allocation.TimeslotsAssigned.{TimeslotsAssigned}
 use Rattle.channel_allocation.specs.declared.channel_allocation.Frame18Pattern.{Frame18Pattern}
 use Rattle.channel_allocation.specs.declared.channel_allocation.Frame18Pattern.the-variants.{Without, Pattern}
@@ -43,8 +47,13 @@ allocTypeNumber ReplaceWithCarrierSignalling = 3
 abbrev pub allocTypes : List ChanAllocType
 allocTypes = Replace ∷ Additional ∷ QuitAndGo ∷ []
 
+-- the case of a field's bits, the low 2 of a number
 unfoldable pub allocTypeOf : ℕ → ChanAllocType
-allocTypeOf v = getD allocTypes v ReplaceWithCarrierSignalling
+allocTypeOf v = getD allocTypes (v % 4) ReplaceWithCarrierSignalling
+
+-- of a number, where it is one of 2 bits
+abbrev pub allocTypeCase : ℕ → AllocTypeCase
+allocTypeCase v = cond (leb v 3) (AllocTypeCase'.Case (allocTypeOf v)) AllocTypeCase'.Nothing
 
 abbrev pub ulDlNumber : UlDlAssignment → ℕ
 ulDlNumber Augmented = 0
@@ -55,8 +64,13 @@ ulDlNumber Both = 3
 abbrev pub ulDls : List UlDlAssignment
 ulDls = Augmented ∷ Dl ∷ Ul ∷ []
 
+-- the case of a field's bits, the low 2 of a number
 unfoldable pub ulDlOf : ℕ → UlDlAssignment
-ulDlOf v = getD ulDls v Both
+ulDlOf v = getD ulDls (v % 4) Both
+
+-- of a number, where it is one of 2 bits
+abbrev pub ulDlCase : ℕ → UlDlCase
+ulDlCase v = cond (leb v 3) (UlDlCase'.Case (ulDlOf v)) UlDlCase'.Nothing
 
 -- "slot 1 first"
 abbrev pub timeslotsNumber : TimeslotsAssigned → ℕ
@@ -97,7 +111,7 @@ readMonPatterns = do
 abbrev pub monPatternsOut : List Bool → MonPatternsPart → Out MonPatterns
 monPatternsOut h p = partAfter (p .refusal) (p .patterns) (p .after) h
 
--- "a set extension flag is refused when read; augmented is refused after the patterns are read"
+-- "A set extension flag is refused when read; augmented is refused after the patterns are read"
 unfoldable pub readChannelAllocation : Reader ChanAllocElement
 readChannelAllocation = do
   allocation ← field 2 done
@@ -161,7 +175,7 @@ ulDlRefusal Dl = 0
 ulDlRefusal Ul = 0
 ulDlRefusal Both = 0
 
--- "the length functions refuse 6 for direction 0"
+-- "The three length functions refuse 6 for direction 0"
 unfoldable pub lenRefusal : ChanAllocElement → ℕ
 lenRefusal e = ulDlRefusal (e .«ul_dl_assigned»)
 

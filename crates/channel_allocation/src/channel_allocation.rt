@@ -69,11 +69,12 @@ pub enum Frame18Pattern {
     Pattern(u8),
 }
 
+// Each field with its bits.
 pub struct ChanAllocElement {
-    // 4, written second. It stands first so that its four bytes are aligned and are moved as one.
-    pub ts_assigned: TimeslotsAssigned,
     // 2
     pub alloc_type: ChanAllocType,
+    // 4
+    pub ts_assigned: TimeslotsAssigned,
     // 2
     pub ul_dl_assigned: UlDlAssignment,
     // 1
@@ -82,10 +83,10 @@ pub struct ChanAllocElement {
     pub cell_change_flag: bool,
     // 12
     pub carrier_num: u16,
-    // 2 where mon_pattern is 0, written last. It stands here for the reason that Refusal gives.
-    pub frame18_mon_pattern: Frame18Pattern,
     // 2, after the extension flag
     pub mon_pattern: u8,
+    // 2 where mon_pattern is 0
+    pub frame18_mon_pattern: Frame18Pattern,
 }
 
 // A channel allocation, or why there is none.
@@ -343,7 +344,6 @@ pub fn len_refusal(e: ChanAllocElement) -> u8
     }
 }
 
-// Why a channel allocation is not written, or 0.
 pub fn channel_allocation_refusal(e: ChanAllocElement) -> u8
     ensures { λ r. ⌜ r ≡ channelAllocationRefusal e ⌝ }
 {
@@ -412,7 +412,6 @@ pub fn channel_allocation_word(e: ChanAllocElement) -> u64
     x
 }
 
-// A channel allocation on its way to being written.
 fn channel_allocation_encoded(e: ChanAllocElement) -> Encoded
     ensures { λ r. ⌜ EncodesOne (channelAllocationRefusal e) (channelAllocationLen e) (channelAllocationBits e) r ⌝ }
 {

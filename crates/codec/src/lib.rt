@@ -161,7 +161,7 @@ pub fn moved_by(c: Cursor, n: usize) -> Cursor
     }
 }
 
-// Why a value of size bits, which is itself refused by value or by 0, is not written at a cursor, or 0.
+// Why size bits are not written at a cursor, or 0. What they stand for is itself refused by the number value, or by none if that is 0.
 pub fn write_refusal(len: usize, c: Cursor, value: u8, size: usize) -> u8
     ensures { λ r. ⌜ r ≡ refusalAt len c value size ⌝ }
 {

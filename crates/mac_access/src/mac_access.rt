@@ -271,7 +271,6 @@ fn option_refusal(option: MacAccessOption) -> u8
     }
 }
 
-// Why a MAC-ACCESS is not written, or 0.
 pub fn mac_access_refusal(h: MacAccess) -> u8
     ensures { λ r. ⌜ r ≡ macAccessRefusal h ⌝ }
 {
@@ -280,7 +279,6 @@ pub fn mac_access_refusal(h: MacAccess) -> u8
     uplink_head::uplink_refusal(h.encrypted, addr, option_refusal(option))
 }
 
-// The bits of an option.
 fn option_size(option: MacAccessOption) -> usize
     ensures { λ r. ⌜ (r ≡ size (optionRow option)) × (r ≤ optionMost) ⌝ }
 {

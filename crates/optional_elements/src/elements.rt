@@ -25,6 +25,7 @@ ghost use Rattle.optional_elements.specs.Elements.{noElements, flagsLen,
 // The three flags.
 pub const FLAGS: usize = 3;
 
+// Each with the bits of its flag and its own.
 pub struct Elements {
     // 1, and 4 if set
     pub power_control_element: OptionalPower,

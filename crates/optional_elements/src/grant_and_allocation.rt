@@ -13,6 +13,7 @@ ghost use Rattle.codec.specs.Ahead.{Ready, ReadsNext, Onward};
 ghost use Rattle.codec.specs.Piece.{Holds};
 ghost use Rattle.optional_elements.specs.GrantAndAllocation.{grantAndAllocationMost, readGrantAndAllocation, grantAndAllocationOut, grantAndAllocationRefusal, grantAndAllocationLen, grantAndAllocationBits};
 
+// Each with the bits of its flag and its own.
 pub struct GrantAndAllocation {
     // 1, and 8 if set
     pub slot_granting_element: OptionalGrant,

@@ -19,7 +19,7 @@ const FLAG: u64 = 1 << 4;
 
 pub enum OptionalPower {
     Without,
-    // 4
+    // 4 bits
     Level(u8),
 }
 

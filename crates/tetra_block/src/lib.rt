@@ -1,7 +1,7 @@
 // The C interface of the downlink block. What stands at a bit of it is an entry of 33 words: kind (0 end, 1 MAC-RESOURCE, 2 null PDU, 3 refused
 // PDU), first bit; whether it has an end, the bit after it; content start, content end; refusal number, refused field's bit from the PDU's
-// first bit; and the header's record of 25 words. What there is not is 0. A library apart from tetra_mac: there each reader and writer of a
-// MAC-RESOURCE keeps its one caller, into which the compiler puts it.
+// first bit; and the header's record of 25 words. What there is not is 0. A library of its own, as tetra_resource is:
+// docs/DECISIONS.md, Crates, has the reason.
 use block_rules::to_add::LengthIndication;
 use mac_block::reader;
 use mac_block::reader::BlockEntry;

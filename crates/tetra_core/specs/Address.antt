@@ -1,5 +1,6 @@
 -- The code of each address case. Clause 21.4.3.1, table of MAC-RESOURCE, and 21.4.2.1, 21.4.2.3 for the uplink.
 use Prim.Native.Nat.{ℕ}
+use Rattle.tetra_core.specs.declared.address.SsiType.{SsiType}
 use Rattle.tetra_core.specs.declared.address.DownlinkAddress.{DownlinkAddress}
 use Rattle.tetra_core.specs.declared.address.DownlinkAddress.the-variants as Address'
 use Rattle.tetra_core.specs.declared.address.UplinkAddress.{UplinkAddress}
@@ -22,3 +23,10 @@ uplinkAddressType (Uplink'.Ssi k v) = 0
 uplinkAddressType (Uplink'.EventLabel l) = 1
 uplinkAddressType (Uplink'.Ussi v) = 2
 uplinkAddressType (Uplink'.Smi v) = 3
+
+-- an SSI of a kind, alone
+abbrev pub ssiAddress : ℕ → SsiType → DownlinkAddress
+ssiAddress v k = Address'.Ssi k v
+
+abbrev pub uplinkSsiAddress : ℕ → SsiType → UplinkAddress
+uplinkSsiAddress v k = Uplink'.Ssi k v

@@ -2,7 +2,7 @@
 use Prim.Native.Nat.{ℕ, zero, suc, _+_, _-_, _*_, _^_}
 use mathlib.Core.List.{List, [], _∷_, _++_, map}
 use mathlib.Core.Bool.{Bool, true, false, _&&_}
-use lib.ListN.{length, replicate}
+use lib.ListN.{length, replicate, drop}
 use lib.IntN.{ℤ, pos, negsuc, _+ℤ_}
 use lib.Dec.{leb, ltb}
 use Rattle.bits.specs.Bits.{digit, odd, bitsAt, getBits, putBits, bitsOfNat}
@@ -38,7 +38,7 @@ moved c n = at c (c .pos + n)
 
 -- ---- the forms of an answer, where the number of its refusal is j, or 0 if nothing refuses it
 
--- a number; "a bare field or peek gives 0" for the place of its refusal
+-- a number; "A bare field or peek gives 0" for the place of its refusal
 abbrev pub answer : ℕ → ℕ → BitsAnswer
 answer zero v = Value v
 answer (suc j) v = Refused (record { number = suc j; offset = 0 })
@@ -48,7 +48,7 @@ abbrev pub after : ℕ → Cursor → Cursor → Cursor
 after zero c d = d
 after (suc j) c d = c
 
--- what a call that writes, copies or moves says: "a write refusal is its number alone"
+-- what a call that writes, copies or moves says: "A write or length refusal is its number alone"
 abbrev pub outcome : ℕ → Outcome
 outcome zero = Outcome'.Done
 outcome (suc j) = Outcome'.Refused (suc j)
@@ -99,7 +99,7 @@ peekPlace s c Place'.Before n = reads (first (unless (goodWindow (length s) c) 1
 unfoldable pub peekBitsPosoffset : List ℕ → Cursor → ℤ → ℕ → BitsRead
 peekBitsPosoffset s c o n = peekPlace s c (placeOf (signed (c .pos) +ℤ o)) n
 
--- n bits as bytes, the last one filled up with zeros; "short source: 1; short destination: 2"
+-- n bits as bytes, the last one filled up with zeros: 1 where the source is too short, 2 where the destination is
 unfoldable pub intoSliceRefusal : ℕ → Cursor → ℕ → ℕ → ℕ
 intoSliceRefusal len c n room =
     first (unless (goodWindow len c) 13 ∷ unless (leb n (remaining c)) 1 ∷ unless (leb (octetsOf n) room) 2 ∷ [])
@@ -123,6 +123,21 @@ toBitarr s c buf = reads (roomRefusal 1 (length s) c (length buf)) (length buf) 
 unfoldable pub bitarr : List ℕ → Cursor → List ℕ → List ℕ
 bitarr s c buf = bytesAfter (roomRefusal 1 (length s) c (length buf)) buf (map digit (bitsAt s (c .pos) (length buf)))
 
+-- the whole window, wherever its cursor is: a byte 0 or 1 for each bit, in the first bytes of buf
+abbrev pub windowLen : Cursor → ℕ
+windowLen c = c .end - c .start
+
+unfoldable pub bitvecRefusal : ℕ → Cursor → ℕ → ℕ
+bitvecRefusal len c room = first (unless (goodWindow len c) 13 ∷ unless (leb (windowLen c) room) 2 ∷ [])
+
+unfoldable pub intoBitvec : List ℕ → Cursor → List ℕ → BitsRead
+intoBitvec s c buf = reads (bitvecRefusal (length s) c (length buf)) (windowLen c) c c
+
+unfoldable pub bitvec : List ℕ → Cursor → List ℕ → List ℕ
+bitvec s c buf =
+    bytesAfter (bitvecRefusal (length s) c (length buf)) buf
+    (map digit (bitsAt s (c .start) (windowLen c)) ++ drop (windowLen c) buf)
+
 -- ---- writes
 
 -- "Write checks: width over 64, then value, then end."
@@ -136,7 +151,7 @@ writeBits s c v n = moves (writeRefusal (length s) c v n) c (moved c n)
 unfoldable pub written : List ℕ → Cursor → ℕ → ℕ → List ℕ
 written s c v n = bytesAfter (writeRefusal (length s) c v n) s (putBits s (c .pos) (bitsOfNat n v))
 
--- n bits that are all b, as many as the window has room for
+-- n bits that are all b; more than 64 too, if the window has room for all
 unfoldable pub writeRun : List ℕ → Cursor → ℕ → Moved
 writeRun s c n = moves (roomRefusal 2 (length s) c n) c (moved c n)
 
@@ -161,7 +176,7 @@ copyBits t d s c n =
 unfoldable pub copied : List ℕ → Cursor → List ℕ → Cursor → ℕ → List ℕ
 copied t d s c n = bytesAfter (copyRefusal (length t) d (length s) c n) t (putBits t (d .pos) (bitsAt s (c .pos) n))
 
--- each byte of buf is a bit: "a value that is no bit: 3"
+-- each byte of buf is a bit
 abbrev pub areBits : List ℕ → Bool
 areBits [] = true
 areBits (b ∷ bs) = ltb b 2 && areBits bs
@@ -181,7 +196,7 @@ fromBitarr s c buf = bytesAfter (fromBitarrRefusal (length s) c buf) s (putBits 
 unfoldable pub windowCount : ℕ → Cursor → ℕ → BitsAnswer
 windowCount len c v = answer (unless (goodWindow len c) 13) v
 
--- a window changed into d: "a window that would be bad: 13"
+-- a window changed into d, which has to be good too
 unfoldable pub changed : ℕ → Cursor → Cursor → Moved
 changed len c d = moves (unless (goodWindow len c && goodWindow len d) 13) c d
 

@@ -1,4 +1,4 @@
--- Octets and bits. "Octets are header plus content rounded up, fill the bits short of it."
+-- Octets and bits. "octets are header plus content rounded up, fill the bits short of it."
 use Prim.Native.Nat.{ℕ, _+_, _-_, _*_, _/_}
 use mathlib.Core.Bool.{Bool, true, false}
 use lib.Dec.{leb}
@@ -17,6 +17,6 @@ abbrev pub countedOr8 : Bool → ℕ → OctetCount
 countedOr8 true n = Counted (record { 0 = octetsOf n }) (record { 0 = fillOf n })
 countedOr8 false n = Refused 8
 
--- "over 61 octets: 8"
+-- "over 61 octets" is refused 8
 unfoldable pub octetCount : ℕ → OctetCount
 octetCount n = countedOr8 (leb (octetsOf n) 61) n

@@ -1,6 +1,7 @@
 // Addresses of the MAC. An address names its parts by its case, so that contradictory pairs of the Rust's options cannot be built.
 ghost use mathlib.Core.Path.{_≡_};
-ghost use Rattle.tetra_core.specs.Address.{addressType, uplinkAddressType};
+ghost use Rattle.tetra_core.specs.Address.{uplinkAddressType, ssiAddress, uplinkSsiAddress};
+ghost use Rattle.tetra_core.specs.declared.address.SsiType.the-variants.{Issi};
 
 // What kind of short subscriber identity an SSI is. On the air all three are one: downlink reads give Ssi, uplink reads Issi.
 pub enum SsiType {
@@ -32,20 +33,31 @@ pub enum UplinkAddress {
     Smi(u32),
 }
 
-// The address type of a MAC-RESOURCE, 3 bits.
-pub fn address_type(a: DownlinkAddress) -> u8
-    ensures { λ r. ⌜ r ≡ addressType a ⌝ }
+// An SSI of a kind as an address, as TetraAddress::new of the Rust. A USSI and an SMI are cases of their own.
+pub fn new(ssi: u32, ssi_type: SsiType) -> DownlinkAddress
+    ensures { λ r. ⌜ r ≡ ssiAddress ssi «ssi_type» ⌝ }
 {
-    match a {
-        DownlinkAddress::NullPdu => 0,
-        DownlinkAddress::Ssi(_, _) => 1,
-        DownlinkAddress::EventLabel(_) => 2,
-        DownlinkAddress::Ussi(_) => 3,
-        DownlinkAddress::Smi(_) => 4,
-        DownlinkAddress::SsiAndEventLabel(_, _, _) => 5,
-        DownlinkAddress::SsiAndUsageMarker(_, _, _) => 6,
-        DownlinkAddress::SmiAndEventLabel(_, _) => 7,
-    }
+    DownlinkAddress::Ssi(ssi_type, ssi)
+}
+
+// An individual SSI as an address.
+pub fn issi(ssi: u32) -> DownlinkAddress
+    ensures { λ r. ⌜ r ≡ ssiAddress ssi Issi ⌝ }
+{
+    new(ssi, SsiType::Issi)
+}
+
+// The same in the uplink.
+pub fn uplink_new(ssi: u32, ssi_type: SsiType) -> UplinkAddress
+    ensures { λ r. ⌜ r ≡ uplinkSsiAddress ssi «ssi_type» ⌝ }
+{
+    UplinkAddress::Ssi(ssi_type, ssi)
+}
+
+pub fn uplink_issi(ssi: u32) -> UplinkAddress
+    ensures { λ r. ⌜ r ≡ uplinkSsiAddress ssi Issi ⌝ }
+{
+    uplink_new(ssi, SsiType::Issi)
 }
 
 // The address type of a MAC-ACCESS or MAC-DATA, 2 bits.

@@ -12,7 +12,7 @@ ghost use lib.ListN.{length};
 ghost use lib.IntN.{_+ℤ_};
 ghost use lib.Dec.{ltb};
 ghost use Rattle.bits.specs.Bits.{bitsOfNat, putBits};
-ghost use Rattle.tetra_core.specs.BitBuffer.{goodWindow, readRefusal, readBits, peekAt, peekBitsPosoffset, writeRefusal, writeBits, written, at, placeOf, signed, readRefused, bytesAfter, moves, moved, windowCount, changed, seekRel, opened, writeRun, runWritten, copyRefusal, copyBits, copied, intoSliceRefusal, readBitsIntoSlice, slicedBits, roomRefusal, toBitarr, bitarr, fromBitarrRefusal, copyBitsFromBitarr, fromBitarr};
+ghost use Rattle.tetra_core.specs.BitBuffer.{goodWindow, readRefusal, readBits, peekAt, peekBitsPosoffset, writeRefusal, writeBits, written, at, placeOf, signed, readRefused, bytesAfter, moves, moved, windowCount, changed, seekRel, opened, writeRun, runWritten, copyRefusal, copyBits, copied, intoSliceRefusal, readBitsIntoSlice, slicedBits, roomRefusal, toBitarr, bitarr, bitvecRefusal, intoBitvec, bitvec, fromBitarrRefusal, copyBitsFromBitarr, fromBitarr};
 
 // A window over a slice and the bit that it has reached. It is good where start <= pos <= end, and end is at most 65,536 and
 // at most the bits of the slice.
@@ -326,6 +326,36 @@ pub fn to_bitarr(s: &[u8], c: Cursor, buf: &mut [u8]) -> BitsRead
     }
 }
 
+// Why the window's bits are not read into room bytes, or 0.
+fn bitvec_refusal(len: usize, c: Cursor, room: usize) -> u8
+    ensures { λ r. ⌜ r ≡ bitvecRefusal len c room ⌝ }
+{
+    if !good_window(len, c) {
+        return refusal::BAD_WINDOW;
+    }
+    if room < c.end - c.start {
+        return refusal::WRITE_PAST_END;
+    }
+    0
+}
+
+// The whole window, wherever its cursor is: each bit into a byte, as 0 or 1. Leaves the bytes of buf behind them.
+pub fn into_bitvec(s: &[u8], c: Cursor, buf: &mut [u8]) -> BitsRead
+    ensures { λ r. ⌜ (r ≡ intoBitvec (now (s .entry)) c (now (buf .entry))) × (now (buf .exit) ≡ bitvec (now (s .entry)) c (now (buf .entry))) ⌝ }
+{
+    let number = bitvec_refusal(s.len(), c, buf.len());
+    if number != 0 {
+        return refused(c, number);
+    }
+    let start = c.start;
+    let n = c.end - start;
+    bitarr::spread_all(&mut buf[..n], s, start);
+    BitsRead {
+        cursor: c,
+        answer: BitsAnswer::Value(n as u64),
+    }
+}
+
 // Puts value into num_bits bits at the cursor, or nothing if a number other than 0 refuses the call.
 fn put_unless(s: &mut [u8], c: Cursor, value: u64, num_bits: usize, number: u8)
     requires { ⌜ (number ≡ 0 → (c .pos + «num_bits» ≤ 8 * length (now s)) × («num_bits» ≤ 64) × (c .pos ≤ 65536) × (value < 2 ^ «num_bits»)) ⌝ }
@@ -372,14 +402,14 @@ fn write_run(s: &mut [u8], c: Cursor, num_bits: usize, ones: bool) -> Moved
     }
 }
 
-// Writes num_bits zeroes, as many as the window has room for.
+// Writes num_bits zeroes; more than 64 too, if the window has room for all.
 pub fn write_zeroes(s: &mut [u8], c: Cursor, num_bits: usize) -> Moved
     ensures { λ r. ⌜ (r ≡ writeRun (now (s .entry)) c «num_bits») × (now (s .exit) ≡ runWritten false (now (s .entry)) c «num_bits») ⌝ }
 {
     write_run(s, c, num_bits, false)
 }
 
-// Writes num_bits ones, as many as the window has room for.
+// Writes num_bits ones; more than 64 too, if the window has room for all.
 pub fn write_ones(s: &mut [u8], c: Cursor, num_bits: usize) -> Moved
     ensures { λ r. ⌜ (r ≡ writeRun (now (s .entry)) c «num_bits») × (now (s .exit) ≡ runWritten true (now (s .entry)) c «num_bits») ⌝ }
 {

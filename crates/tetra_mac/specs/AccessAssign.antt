@@ -1,6 +1,6 @@
--- The ACCESS-ASSIGN as a record of 5 words: "header 0..3; field one: a, b; field two: a, b. An access field is access code 0..3 and base frame
--- length code 0..15; a downlink usage is kind (0 Unallocated, 1 AssignedControl, 2 CommonControl, 3 CommonAndAssigned, 4 Traffic) and traffic
--- number; an uplink usage is kind (0 CommonOnly, 1 CommonAndAssigned, 2 AssignedOnly, 3 Unallocated, 4 Traffic) and traffic number"
+-- The ACCESS-ASSIGN as a record of 5 words: header 0 to 3; field one: a, b; field two: a, b. An access field is access code 0 to 3 and base frame
+-- length code 0 to 15; a downlink usage is kind (0 Unallocated, 1 AssignedControl, 2 CommonControl, 3 CommonAndAssigned, 4 Traffic) and traffic
+-- number; an uplink usage is kind (0 CommonOnly, 1 CommonAndAssigned, 2 AssignedOnly, 3 Unallocated, 4 Traffic) and traffic number.
 use Prim.Native.Nat.{ℕ, min}
 use mathlib.Core.List.{List, [], _∷_, _++_}
 use mathlib.Core.Bool.{Bool, false, cond, _&&_}
@@ -87,7 +87,7 @@ accessAssignKnown ws = leb 5 (length ws) && (oneKnown (word ws 0) (word ws 1) (w
 unfoldable pub fieldValue : ℕ → ℕ → AccessField
 fieldValue code len = record { «access_code» = accessCodeOf code; «base_frame_len» = baseFrameLengthOf len }
 
--- the kinds of 0 to 3; 4, the last, is traffic
+-- the usages of the kinds 0 to 3; what is known and none of these is kind 4, traffic
 abbrev pub dlUsages : List AccessAssignDlUsage
 dlUsages = Dl'.Unallocated ∷ Dl'.AssignedControl ∷ Dl'.CommonControl ∷ Dl'.CommonAndAssigned ∷ []
 
@@ -100,7 +100,7 @@ ulUsages = Ul'.CommonOnly ∷ Ul'.CommonAndAssigned ∷ Ul'.AssignedOnly ∷ Ul'
 unfoldable pub ulValue : ℕ → ℕ → AccessAssignUlUsage
 ulValue kind traffic = getD ulUsages kind (Ul'.Traffic (min traffic 255))
 
--- of the headers 0 to 2; 3 is the last
+-- the values of the headers 0 to 2; what is known and none of these is header 3
 abbrev pub assigns : ℕ → ℕ → ℕ → ℕ → List AccessAssign
 assigns a b c d =
     DownlinkCommonControlUplinkCommonOnly (fieldValue a b) (fieldValue c d)

@@ -1,6 +1,6 @@
--- Addresses as words: "address type 0..7, SSI kind (0 Ssi, 1 Issi, 2 Gssi), first number (SSI, USSI, SMI, or the label where it stands alone),
--- second number (label or marker)"; in the uplink "address type 0..3, SSI kind, address number". "What a case does not have is read as 0 and
--- not looked at when written."
+-- Addresses as words: address type 0 to 7, SSI kind (0 Ssi, 1 Issi, 2 Gssi), first number (SSI, USSI, SMI, or the label where it stands alone),
+-- second number (label or marker); in the uplink address type 0 to 3, SSI kind, address number. What a case does not have is 0 when read and
+-- not looked at when written.
 use Prim.Native.Nat.{ℕ, min}
 use mathlib.Core.List.{List, [], _∷_}
 use mathlib.Core.Bool.{Bool, true, false}
@@ -20,7 +20,7 @@ ssiKind Kind'.Ssi = 0
 ssiKind Kind'.Issi = 1
 ssiKind Kind'.Gssi = 2
 
--- the kinds of 0 and 1; 2 is the last
+-- the kinds 0 and 1; what is known and neither of these is kind 2
 abbrev pub ssiKinds : List SsiType
 ssiKinds = Kind'.Ssi ∷ Kind'.Issi ∷ []
 
@@ -42,7 +42,7 @@ uplinkKnowns kind = ltb kind 3 ∷ true ∷ true ∷ true ∷ []
 unfoldable pub uplinkKnown : ℕ → ℕ → Bool
 uplinkKnown type kind = getD (uplinkKnowns kind) type false
 
--- of the types 0 to 2; 3 is the last. A number that is too large is cut to the largest of its type
+-- the addresses of the types 0 to 2; what is known and none of these is type 3. A number too large for its type is taken as the largest
 abbrev pub uplinks : ℕ → ℕ → List UplinkAddress
 uplinks kind v = Uplink'.Ssi (ssiOfKind kind) (min v 4294967295) ∷ Uplink'.EventLabel (min v 65535) ∷ Uplink'.Ussi (min v 4294967295) ∷ []
 
@@ -88,7 +88,7 @@ addressKnowns kind = true ∷ ltb kind 3 ∷ true ∷ true ∷ true ∷ ltb kind
 unfoldable pub addressKnown : ℕ → ℕ → Bool
 addressKnown type kind = getD (addressKnowns kind) type false
 
--- of the types 0 to 6; 7 is the last
+-- the addresses of the types 0 to 6; what is known and none of these is type 7
 abbrev pub addresses : SsiType → ℕ → ℕ → List DownlinkAddress
 addresses k a b =
     Address'.NullPdu

@@ -1,4 +1,4 @@
--- The calls of the bit buffer: "cursor, value".
+-- The calls of the bit buffer: a read leaves the cursor and the value.
 use Prim.Native.Nat.{ℕ}
 use mathlib.Core.List.{List, [], _∷_}
 use mathlib.Core.Option.{some}

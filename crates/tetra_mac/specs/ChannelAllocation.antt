@@ -1,5 +1,5 @@
--- The channel allocation as a record of 9 words: "allocation type 0..3; timeslots as 4 bits (slot 1 is 8); direction 0..3; CLCH permission;
--- cell change; carrier; monitoring pattern; frame-18 pattern present; frame-18 pattern"
+-- The channel allocation as a record of 9 words: allocation type 0 to 3; timeslots as 4 bits (slot 1 is 8); direction 0 to 3; CLCH permission;
+-- cell change; carrier; monitoring pattern; frame-18 pattern present; frame-18 pattern.
 use Prim.Native.Nat.{ℕ, min}
 use mathlib.Core.List.{List, [], _∷_}
 use mathlib.Core.Bool.{Bool, cond, _&&_}

@@ -1,5 +1,5 @@
--- The MAC-ACCESS as a record of 8 words: "fill bits, encrypted, address type 0..3, SSI kind, address number, option (0 none, 1 length, 2
--- capacity request), length or fragment flag, reservation code 0..15"
+-- The MAC-ACCESS as a record of 8 words: fill bits, encrypted, address type 0 to 3, SSI kind, address number, option (0 none, 1 length, 2
+-- capacity request), length or fragment flag, reservation code 0 to 15.
 use Prim.Native.Nat.{ℕ, min}
 use mathlib.Core.List.{List, [], _∷_}
 use mathlib.Core.Bool.{Bool, true, false, _&&_}
@@ -62,7 +62,7 @@ optionKnown option reservation = getD (optionKnowns reservation) option false
 unfoldable pub macAccessKnown : List ℕ → Bool
 macAccessKnown ws = leb 8 (length ws) && (uplinkKnown (word ws 2) (word ws 3) && optionKnown (word ws 5) (word ws 7))
 
--- of the options 0 and 1; 2 is the last
+-- the options 0 and 1; what is known and neither of these is option 2, a capacity request
 abbrev pub options : ℕ → List MacAccessOption
 options v = Without ∷ LengthInd (min v 255) ∷ []
 

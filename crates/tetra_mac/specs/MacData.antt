@@ -1,4 +1,4 @@
--- The MAC-DATA as a record of 8 words: "the same; option 1 or 2". It is the record of a MAC-ACCESS with the same address and option.
+-- The MAC-DATA as a record of 8 words: that of a MAC-ACCESS with the same address and option, which is 1 or 2.
 use Prim.Native.Nat.{ℕ}
 use mathlib.Core.List.{List}
 use mathlib.Core.Bool.{Bool, _&&_}

@@ -43,7 +43,7 @@ putFirst out ws = sets out 0 ws
 abbrev pub givenReply : List ℕ → ℕ → List ℕ → Reply
 givenReply out at ws = replied 0 (putFirst out (at ∷ ws))
 
--- "number + 256 * bit, the refusal's number and, for a read, the first bit of the refused field"
+-- the refusal's number and, for a read, 256 times the first bit of the refused field
 abbrev pub statusOf : Refusal → ℕ
 statusOf r = r .number + 256 * r .offset
 
@@ -57,7 +57,7 @@ outcomeStatus (Refused j) = j
 abbrev pub movedReply : List ℕ → Moved → Reply
 movedReply out m = replied (outcomeStatus (m .answer)) (putFirst out (m .cursor .pos ∷ []))
 
--- "255 .. a record or an out slice that is too short, or a code that no case has; then nothing is written anywhere"
+-- a record or an out slice that is too short, or a code that no case has; then nothing is written anywhere
 abbrev pub malformed : ℕ
 malformed = 255
 

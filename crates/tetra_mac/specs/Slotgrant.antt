@@ -1,5 +1,5 @@
--- The slot grant as a record of 3 words: "capacity code 0..15; delay kind (0 next opportunity, 1 count, 2 frame 18, 3 wait); delay count
--- (only for kind 1, read as 0 otherwise)"
+-- The slot grant as a record of 3 words: capacity code 0 to 15; delay kind (0 next opportunity, 1 count, 2 frame 18, 3 wait); delay count
+-- (only for kind 1, read as 0 otherwise).
 use Prim.Native.Nat.{ℕ, min}
 use mathlib.Core.List.{List, [], _∷_}
 use mathlib.Core.Bool.{Bool, _&&_}
@@ -34,7 +34,7 @@ slotgrantWords g = capAllocNumber (g .«capacity_allocation») ∷ delayKind (g 
 
 -- ---- the slot grant of words
 
--- the kinds of 0 to 2; 3 is the last
+-- the delays of the kinds 0 to 2; what is known and none of these is kind 3
 abbrev pub delays : ℕ → List BasicSlotgrantGrantingDelay
 delays count = CapAllocAtNextOpportunity ∷ DelayNOpportunities count ∷ AllocStartsAtOpportunityInFr18 ∷ []
 

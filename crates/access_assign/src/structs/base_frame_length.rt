@@ -1,7 +1,7 @@
 // Clause 21.4.7.2, ACCESS-ASSIGN: the base frame-length of an access field, 4 bits.
 ghost use mathlib.Core.Path.{_≡_};
 ghost use Prim.Native.Nat.{_<_};
-ghost use Rattle.access_assign.specs.AccessField.{baseFrameLengthNumber, baseFrameLengthOf};
+ghost use Rattle.access_assign.specs.AccessField.{baseFrameLengthNumber, baseFrameLengthOf, baseFrameLengthCase};
 
 pub enum BaseFrameLength {
     // The subslot is assigned already; the access code has no meaning.
@@ -26,11 +26,17 @@ pub enum BaseFrameLength {
     Subslots32,
 }
 
-// The case of a number of 4 bits.
+// The case of a number, or none.
+pub enum BaseFrameLengthCase {
+    Case(BaseFrameLength),
+    Nothing,
+}
+
+// The case of a field's bits, the low 4 of v.
 pub fn from_raw(v: u64) -> BaseFrameLength
     ensures { λ r. ⌜ r ≡ baseFrameLengthOf v ⌝ }
 {
-    match v {
+    match v % 16 {
         0 => BaseFrameLength::ReservedSubslot,
         1 => BaseFrameLength::CLCHSubslot,
         2 => BaseFrameLength::OngoingFrame,
@@ -50,7 +56,16 @@ pub fn from_raw(v: u64) -> BaseFrameLength
     }
 }
 
-// The number of a case.
+// The case of a number; above 15 there is none.
+pub fn try_from(v: u64) -> BaseFrameLengthCase
+    ensures { λ r. ⌜ r ≡ baseFrameLengthCase v ⌝ }
+{
+    if 15 < v {
+        return BaseFrameLengthCase::Nothing;
+    }
+    BaseFrameLengthCase::Case(from_raw(v))
+}
+
 pub fn into_raw(l: BaseFrameLength) -> u64
     ensures { λ r. ⌜ (r ≡ baseFrameLengthNumber l) × (r < 16) ⌝ }
 {

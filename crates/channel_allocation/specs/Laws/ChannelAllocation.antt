@@ -139,7 +139,7 @@ module _ (e : ChanAllocElement) (h : channelAllocationRefusal e ≡ 0) where
     ),
   )
 
-  -- "every accepted write has that length"
+  -- a write that is accepted has the length that is computed
   pub channel-allocation-counted : computeLen e ≡ ChanAllocLen.Len (record { 0 = length (channelAllocationBits e) })
   unfolding computeLen
   channel-allocation-counted = rw (channel-allocation-told .3, channel-allocation-length e)
@@ -216,7 +216,8 @@ unfolding ulDlOf
 ul-dl-free zero h z = absurd (z refl)
 ul-dl-free (suc zero) h z = refl
 ul-dl-free (suc (suc zero)) h z = refl
-ul-dl-free (suc (suc (suc v))) h z = refl
+ul-dl-free (suc (suc (suc zero))) h z = refl
+ul-dl-free (suc (suc (suc (suc v)))) h z = absurd (omega arith)
 
 -- an element is not refused, it is in normal form, and its bits are xs
 abbrev pub ChannelAllocationAgain : ChanAllocElement → List Bool → Type 0

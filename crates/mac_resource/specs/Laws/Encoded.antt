@@ -49,6 +49,6 @@ module _ (h : MacResource) where
     unfolding addRefusal
     add-encodes x y = encodes _ _ x y
 
--- "a null header has no elements", and "null elements go unchecked"
+-- "a null header has no elements", and "Null elements go unchecked"
 pub null-encodes : (h : MacResource) → isNull (h .addr) ≡ true → EncodesRest h (record { number = 0; piece = record { value = 0; bits = 0 } })
 null-encodes h n = rw n (piece-encodes refl (omega arith) (record { is = bits-zero 0; size = refl; small = omega arith }))

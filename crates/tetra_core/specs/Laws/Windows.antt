@@ -10,7 +10,7 @@ use lib.Dec.{leb, ltb}
 use Rattle.bits.specs.Bits.{getBits, bitsOfNat}
 use Rattle.tetra_core.specs.Refusal.{unless, first, first-none, passed}
 use Rattle.tetra_core.specs.Quantity.{octetsOf}
-use Rattle.tetra_core.specs.BitBuffer.{roomRefusal, goodWindow, at, moved, after, answer, bytesAfter, reads, readRefused, moves, changed, peekAt, peekPlace, seekPlace, readRefusal, readBits, writeRefusal, written, outcome, copyRefusal, remaining, intoSliceRefusal, areBits, fromBitarrRefusal}
+use Rattle.tetra_core.specs.BitBuffer.{roomRefusal, goodWindow, at, moved, after, answer, bytesAfter, reads, readRefused, moves, changed, peekAt, peekPlace, seekPlace, readRefusal, readBits, writeRefusal, written, outcome, copyRefusal, remaining, intoSliceRefusal, windowLen, bitvecRefusal, areBits, fromBitarrRefusal}
 use Rattle.bits.specs.Laws.Writes.{length-putBits, getBits-putBits}
 use Rattle.tetra_core.specs.declared.bitbuffer.Cursor.{Cursor}
 use Rattle.tetra_core.specs.declared.bitbuffer.BitsAnswer.the-variants.{Value, Refused}
@@ -115,6 +115,18 @@ roomy j len c n e =
     let w = first-none (unless (goodWindow len c) 13) _ e in
     let x = first-none (unless (leb n (remaining c)) (suc j)) _ (w .1) in
     record { good = good-facts len c (passed _ 12 (w .0)); room = leb-true _ _ (passed _ j (x .0)) }
+
+-- a window whose bits fit k bytes
+pub record Takeable (len : ℕ) (c : Cursor) (k : ℕ) : Type 0 where
+  pub good : Good len c
+  pub room : windowLen c ≤ k
+
+pub takeable : (len : ℕ) (c : Cursor) (k : ℕ) → bitvecRefusal len c k ≡ 0 → Takeable len c k
+unfolding bitvecRefusal
+takeable len c k e =
+    let w = first-none (unless (goodWindow len c) 13) _ e in
+    let x = first-none (unless (leb (windowLen c) k) 2) _ (w .1) in
+    record { good = good-facts len c (passed _ 12 (w .0)); room = leb-true _ _ (passed _ 1 (x .0)) }
 
 pub record Copyable (tLen : ℕ) (d : Cursor) (sLen : ℕ) (c : Cursor) (n : ℕ) : Type 0 where
   pub to : Good tLen d

@@ -3,6 +3,7 @@ use Prim.Native.Nat.{ℕ, _+_, _-_, _<_}
 use mathlib.Core.Path.{_≡_, refl}
 use mathlib.Core.List.{List, _++_}
 use mathlib.Core.Bool.{Bool}
+use native.Mathlib.Nat.{mod-eq-of-lt}
 use native.Mathlib.Omega.{arith}
 use lib.ListN.{length, take}
 use lib.Dec.{leb, eqb, lit<}
@@ -54,7 +55,8 @@ delay-back (DelayNOpportunities n) e =
     let b = and-both (leb 1 n) (leb n 13) (passed _ 13 e) in
     let l = leb-true 1 n (b .0) in
     let u = leb-true n 13 (b .1) in
-    (omega arith, rw (ne-eqb n 0 (λ z. omega arith), ne-eqb n 14 (λ z. omega arith), ne-eqb n 15 (λ z. omega arith)))
+    let small : n < 16 = omega arith in
+    (small, rw (mod-eq-of-lt small, ne-eqb n 0 (λ z. omega arith), ne-eqb n 14 (λ z. omega arith), ne-eqb n 15 (λ z. omega arith)))
 
 pub slotgrant-length : (g : BasicSlotgrant) → length (rowBits (slotgrantRow g)) ≡ slotgrantSize
 unfolding slotgrantRow

@@ -1,7 +1,7 @@
 // Clause 21.5.4, reservation requirement: 4 bits.
 ghost use mathlib.Core.Path.{_≡_};
 ghost use Prim.Native.Nat.{_<_};
-ghost use Rattle.tetra_fields.specs.ReservationRequirement.{reservationNumber, reservationOf, reservationFor, slotcount};
+ghost use Rattle.tetra_fields.specs.ReservationRequirement.{reservationNumber, reservationOf, reservationCase, reservationFor, slotcount};
 
 pub enum ReservationRequirement {
     Req1Subslot,
@@ -22,6 +22,12 @@ pub enum ReservationRequirement {
     ReqOver68,
 }
 
+// The case of a number, or none.
+pub enum ReservationCase {
+    Case(ReservationRequirement),
+    Nothing,
+}
+
 // What a case asks for.
 pub enum ReqSlotcount {
     Subslot,
@@ -29,11 +35,11 @@ pub enum ReqSlotcount {
     Over68,
 }
 
-// The case of a number of 4 bits.
+// The case of a field's bits, the low 4 of v.
 pub fn from_raw(v: u64) -> ReservationRequirement
     ensures { λ r. ⌜ r ≡ reservationOf v ⌝ }
 {
-    match v {
+    match v % 16 {
         0 => ReservationRequirement::Req1Subslot,
         1 => ReservationRequirement::Req1Slot,
         2 => ReservationRequirement::Req2Slots,
@@ -53,7 +59,16 @@ pub fn from_raw(v: u64) -> ReservationRequirement
     }
 }
 
-// The number of a case.
+// The case of a number; above 15 there is none.
+pub fn try_from(v: u64) -> ReservationCase
+    ensures { λ r. ⌜ r ≡ reservationCase v ⌝ }
+{
+    if 15 < v {
+        return ReservationCase::Nothing;
+    }
+    ReservationCase::Case(from_raw(v))
+}
+
 pub fn into_raw(a: ReservationRequirement) -> u64
     ensures { λ r. ⌜ (r ≡ reservationNumber a) × (r < 16) ⌝ }
 {
@@ -101,7 +116,6 @@ pub fn from_req_slotcount(req: usize) -> ReservationRequirement
     }
 }
 
-// What a case asks for.
 pub fn to_req_slotcount(a: ReservationRequirement) -> ReqSlotcount
     ensures { λ r. ⌜ r ≡ slotcount a ⌝ }
 {

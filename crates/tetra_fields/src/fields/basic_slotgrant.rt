@@ -78,7 +78,7 @@ pub fn read_slotgrant(a: Ahead) -> SlotgrantPart
         },
         grant: BasicSlotgrant {
             capacity_allocation: cap_alloc::from_raw(x / CAPACITY % 16),
-            granting_delay: granting_delay::from_raw((x % 16) as u8),
+            granting_delay: granting_delay::from_raw(x % 16),
         },
     }
 }

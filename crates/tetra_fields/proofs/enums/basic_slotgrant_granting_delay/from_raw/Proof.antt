@@ -1,3 +1,4 @@
+use borrow.Author.Needs.{needs}
 use borrow.Author.Tests.{ne-eqb}
 use Rattle.tetra_fields.specs.BasicSlotgrant.{delayOf}
 use Rattle.tetra_fields.proofs.enums.basic_slotgrant_granting_delay.from_raw.Statement.{statement}
@@ -8,6 +9,7 @@ unfolding delayOf
 from-raw-spec =
     tie.close
     (tie.spec
+    (λ c. search needs)
     (λ c. rw (c .match .keys1))
     (λ c. rw (c .match .keys2))
     (λ c. rw (c .match .keys3))

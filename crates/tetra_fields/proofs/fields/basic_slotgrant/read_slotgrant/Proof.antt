@@ -30,6 +30,5 @@ read-slotgrant-spec =
     returns
     (λ c κs. search needs)
     (λ c κs. search needs)
-    (λ c. search needs)
     (λ c κs. search needs)
     returns-2)
