@@ -64,7 +64,8 @@ fn moving_call(call: u64) {
         72 => text(b"read_bits_into_slice"),
         73 => text(b"to_bitarr"),
         74 => text(b"copy_bits"),
-        _ => text(b"copy_bits_from_bitarr"),
+        75 => text(b"copy_bits_from_bitarr"),
+        _ => text(b"into_bitvec"),
     }
 }
 
@@ -78,7 +79,18 @@ fn code_call(call: u64) {
         85 => text(b"codes of AccessCode"),
         86 => text(b"codes of BaseFrameLength"),
         87 => text(b"codes of AccessField"),
-        _ => text(b"codes of MacResourceAddrType"),
+        88 => text(b"codes of MacResourceAddrType"),
+        89 => text(b"capacity, from_req_slotcount"),
+        _ => text(b"capacity, to_req_slotcount"),
+    }
+}
+
+fn address_call(call: u64) {
+    match call {
+        91 => text(b"downlink address, new"),
+        92 => text(b"downlink address, issi"),
+        93 => text(b"uplink address, new"),
+        _ => text(b"uplink address, issi"),
     }
 }
 
@@ -104,6 +116,7 @@ fn last_call(call: u64) {
         107 => text(b"ACCESS-ASSIGN default"),
         108 => text(b"null_pdu"),
         109 => text(b"constants"),
+        110 => text(b"MAC-RESOURCE default"),
         112 => text(b"block, step"),
         113 => text(b"block, add"),
         _ => text(b"block, finish"),
@@ -117,8 +130,11 @@ fn later(call: u64) {
     if call < 80 {
         return moving_call(call);
     }
-    if call < 96 {
+    if call < 91 {
         return code_call(call);
+    }
+    if call < 96 {
+        return address_call(call);
     }
     if call < 107 {
         return usage_call(call);
@@ -149,9 +165,9 @@ pub fn call_known(call: u64) -> bool {
         40..=42 => true,
         48..=64 => true,
         68..=70 => true,
-        72..=75 => true,
-        80..=88 => true,
-        96..=109 => true,
+        72..=76 => true,
+        80..=94 => true,
+        96..=110 => true,
         112..=114 => true,
         _ => false,
     }

@@ -1,19 +1,27 @@
-// The enums that are a field, 80 to 89: of a code the case by its name, counted from 0 as it is declared, and the code of that case again.
+// The enums that are a field, 80 to 90: of a number the case by its name, counted from 0 as it is declared, and the code of that case again;
+// no word where the number has no case.
 use crate::answers;
 use crate::answers::Given;
 use access_assign::enums::access_code;
 use access_assign::enums::access_code::AccessCode;
+use access_assign::enums::access_code::AccessCodeCase;
 use access_assign::structs::access_field;
 use access_assign::structs::base_frame_length;
 use access_assign::structs::base_frame_length::BaseFrameLength;
+use access_assign::structs::base_frame_length::BaseFrameLengthCase;
 use mac_resource::enums::mac_resource_addr_type as addr_type;
+use mac_resource::enums::mac_resource_addr_type::AddrTypeCase;
 use mac_resource::enums::mac_resource_addr_type::MacResourceAddrType;
 use tetra_fields::enums::basic_slotgrant_cap_alloc as cap_alloc;
 use tetra_fields::enums::basic_slotgrant_cap_alloc::BasicSlotgrantCapAlloc;
+use tetra_fields::enums::basic_slotgrant_cap_alloc::CapAllocCase;
+use tetra_fields::enums::basic_slotgrant_cap_alloc::GrantedSlots;
 use tetra_fields::enums::basic_slotgrant_granting_delay as delay;
 use tetra_fields::enums::basic_slotgrant_granting_delay::BasicSlotgrantGrantingDelay;
+use tetra_fields::enums::basic_slotgrant_granting_delay::GrantingDelayCase;
 use tetra_fields::enums::reservation_requirement as reservation;
 use tetra_fields::enums::reservation_requirement::ReqSlotcount;
+use tetra_fields::enums::reservation_requirement::ReservationCase;
 use tetra_fields::enums::reservation_requirement::ReservationRequirement;
 
 fn capacity(a: BasicSlotgrantCapAlloc) -> u64 {
@@ -98,14 +106,69 @@ fn asked(a: ReservationRequirement) -> u64 {
     }
 }
 
+// What a case grants: the first subslot 0, slots their count, the second subslot 99.
+fn granted(a: BasicSlotgrantCapAlloc) -> u64 {
+    match cap_alloc::to_req_slotcount(a) {
+        GrantedSlots::FirstSubslot => 0,
+        GrantedSlots::Slots(n) => n as u64,
+        GrantedSlots::SecondSubslot => 99,
+    }
+}
+
+fn capacity_found(a: CapAllocCase, out: &mut [u64; 40]) -> u64 {
+    match a {
+        CapAllocCase::Case(a) => answers::two(out, capacity(a), cap_alloc::into_raw(a)),
+        CapAllocCase::Nothing => 0,
+    }
+}
+
+fn delay_found(d: GrantingDelayCase, out: &mut [u64; 40]) -> u64 {
+    match d {
+        GrantingDelayCase::Case(d) => answers::two(out, delay_kind(d), delay::into_raw(d)),
+        GrantingDelayCase::Nothing => 0,
+    }
+}
+
+fn reserved(a: ReservationRequirement, out: &mut [u64; 40]) -> u64 {
+    answers::two(out, asked(a), reservation::into_raw(a))
+}
+
+fn reservation_found(a: ReservationCase, out: &mut [u64; 40]) -> u64 {
+    match a {
+        ReservationCase::Case(a) => reserved(a, out),
+        ReservationCase::Nothing => 0,
+    }
+}
+
+fn code_found(a: AccessCodeCase, out: &mut [u64; 40]) -> u64 {
+    match a {
+        AccessCodeCase::Case(a) => answers::two(out, code(a), access_code::into_raw(a)),
+        AccessCodeCase::Nothing => 0,
+    }
+}
+
+fn frame_length_found(l: BaseFrameLengthCase, out: &mut [u64; 40]) -> u64 {
+    match l {
+        BaseFrameLengthCase::Case(l) => {
+            answers::two(out, frame_length(l), base_frame_length::into_raw(l))
+        }
+        BaseFrameLengthCase::Nothing => 0,
+    }
+}
+
+fn address_found(a: AddrTypeCase, out: &mut [u64; 40]) -> u64 {
+    match a {
+        AddrTypeCase::Case(a) => answers::two(out, address(a), addr_type::into_raw(a)),
+        AddrTypeCase::Nothing => 0,
+    }
+}
+
 fn grant_codes(call: u64, v: u64, out: &mut [u64; 40]) -> u64 {
     if call == 80 {
-        let a = cap_alloc::from_raw(v);
-        return answers::two(out, capacity(a), cap_alloc::into_raw(a));
+        return capacity_found(cap_alloc::try_from(v), out);
     }
     if call == 81 {
-        let d = delay::from_raw(answers::octet(v));
-        return answers::two(out, delay_kind(d), delay::into_raw(d));
+        return delay_found(delay::try_from(v), out);
     }
     let d = BasicSlotgrantGrantingDelay::DelayNOpportunities(answers::octet(v));
     answers::one(out, delay::into_raw(d))
@@ -113,21 +176,17 @@ fn grant_codes(call: u64, v: u64, out: &mut [u64; 40]) -> u64 {
 
 fn reservations(call: u64, v: u64, out: &mut [u64; 40]) -> u64 {
     if call == 83 {
-        let a = reservation::from_raw(v);
-        return answers::two(out, asked(a), reservation::into_raw(a));
+        return reservation_found(reservation::try_from(v), out);
     }
-    let a = reservation::from_req_slotcount(v as usize);
-    answers::two(out, asked(a), reservation::into_raw(a))
+    reserved(reservation::from_req_slotcount(v as usize), out)
 }
 
 fn field_codes(call: u64, v: u64, out: &mut [u64; 40]) -> u64 {
     if call == 85 {
-        let a = access_code::from_raw(v);
-        return answers::two(out, code(a), access_code::into_raw(a));
+        return code_found(access_code::try_from(v), out);
     }
     if call == 86 {
-        let a = base_frame_length::from_raw(v);
-        return answers::two(out, frame_length(a), base_frame_length::into_raw(a));
+        return frame_length_found(base_frame_length::try_from(v), out);
     }
     let f = access_field::from_raw(v);
     let a = f.access_code;
@@ -136,9 +195,12 @@ fn field_codes(call: u64, v: u64, out: &mut [u64; 40]) -> u64 {
     answers::two(out, code(a), frame_length(l))
 }
 
-fn addresses(v: u64, out: &mut [u64; 40]) -> u64 {
-    let a = addr_type::from_raw(v);
-    answers::two(out, address(a), addr_type::into_raw(a))
+fn last_codes(call: u64, v: u64, out: &mut [u64; 40]) -> u64 {
+    match call {
+        88 => address_found(addr_type::try_from(v), out),
+        89 => capacity_found(cap_alloc::from_req_slotcount(v as usize), out),
+        _ => answers::one(out, granted(cap_alloc::from_raw(v))),
+    }
 }
 
 pub fn call(call: u64, n: Given, out: &mut [u64; 40]) -> u64 {
@@ -151,5 +213,5 @@ pub fn call(call: u64, n: Given, out: &mut [u64; 40]) -> u64 {
     if call < 88 {
         return field_codes(call, n.a, out);
     }
-    addresses(n.a, out)
+    last_codes(call, n.a, out)
 }

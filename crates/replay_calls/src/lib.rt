@@ -1,5 +1,6 @@
 // The calls that the list of recorded answers has numbers for, over the proved library. Each answers a status, 0 or a refusal's number, and puts
 // the words of its answer into out.
+pub mod addresses;
 pub mod answers;
 pub mod bit_calls;
 pub mod block_calls;
@@ -39,8 +40,11 @@ pub fn call(
     if call < 80 {
         return bits(call, given, s, c, n, out);
     }
-    if call < 96 {
+    if call < 91 {
         return codes::call(call, n, out);
+    }
+    if call < 96 {
+        return addresses::call(call, n, out);
     }
     if call < 112 {
         return usages::call(call, n, out);

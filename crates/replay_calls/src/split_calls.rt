@@ -1,4 +1,4 @@
-// The calls of the bit buffer that take from one slice and write another, 72 to 75. The record's bytes are both, one
+// The calls of the bit buffer that take from one slice and write another, 72 to 76. The record's bytes are both, one
 // behind the other; the call's first number says how many are the first's.
 use crate::answers;
 use crate::answers::Given;
@@ -28,6 +28,7 @@ fn both(call: u64, from: &[u8], to: &mut [u8], c: Cursor, n: Given, out: &mut [u
         72 => answers::read(out, bitbuffer::read_bits_into_slice(from, c, count, to)),
         73 => answers::read(out, bitbuffer::to_bitarr(from, c, to)),
         75 => answers::moved(out, bitbuffer::copy_bits_from_bitarr(to, c, from)),
+        76 => answers::read(out, bitbuffer::into_bitvec(from, c, to)),
         _ => copies(from, to, c, n, out),
     }
 }

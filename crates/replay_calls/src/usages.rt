@@ -1,4 +1,4 @@
-// What a header or a part of it is asked, 96 to 109: usages by kind and traffic channel, a MAC-ACCESS by its option, a MAC-RESOURCE by its
+// What a header or a part of it is asked, 96 to 110: usages by kind and traffic channel, a MAC-ACCESS by its option, a MAC-RESOURCE by its
 // address; and the headers and numbers that are given without a question.
 use crate::answers;
 use crate::answers::Given;
@@ -204,6 +204,9 @@ fn constants(call: u64, out: &mut [u64; 40]) -> u64 {
     }
     if call == 108 {
         return tetra_resource::give_mac_resource(out, 0, resource::null_pdu());
+    }
+    if call == 110 {
+        return tetra_resource::give_mac_resource(out, 0, resource::default_mac_resource());
     }
     answers::two(
         out,

@@ -34,6 +34,7 @@ pub const READ_INTO_SLICE: u8 = 72;
 pub const TO_BITARR: u8 = 73;
 pub const COPY_BITS: u8 = 74;
 pub const FROM_BITARR: u8 = 75;
+pub const INTO_BITVEC: u8 = 76;
 
 /// Those without numbers, and those with one place or count.
 pub const BARE: [u8; 9] =
@@ -68,7 +69,8 @@ pub fn name(call: u8) -> &'static str {
         READ_INTO_SLICE => "read_bits_into_slice",
         TO_BITARR => "to_bitarr",
         COPY_BITS => "copy_bits",
-        _ => "copy_bits_from_bitarr",
+        FROM_BITARR => "copy_bits_from_bitarr",
+        _ => "into_bitvec",
     }
 }
 
@@ -102,6 +104,18 @@ fn window_words(w: Window) -> Vec<u64> {
     vec![w.start as u64, w.pos as u64, w.end as u64]
 }
 
+/// The whole window's bits, by `to_bitarr` from its start; `into_bitvec` takes as many from bit 0, the same where the window starts there.
+fn window_bits(b: &BitBuffer) -> Vec<u8> {
+    let mut bits = vec![2; b.get_len()];
+    let mut whole = b.clone();
+    whole.set_raw_pos(b.get_raw_start());
+    whole.to_bitarr(&mut bits);
+    if b.get_raw_start() == 0 {
+        assert_eq!(b.clone().into_bitvec(), bits);
+    }
+    bits
+}
+
 impl BitCase {
     pub fn writes(&self) -> bool {
         self.call == WRITE_BITS || self.call >= WRITE_BIT
@@ -111,17 +125,22 @@ impl BitCase {
         self.call >= READ_INTO_SLICE
     }
 
+    /// Whether the first bytes are those of the window.
+    fn window_first(&self) -> bool {
+        self.call < COPY_BITS || self.call == INTO_BITVEC
+    }
+
     /// The bytes of the buffer that has the window, and the others.
     fn parts(&self) -> (Vec<u8>, Vec<u8>) {
         if !self.splits() {
             return (self.bytes.clone(), vec![]);
         }
         let (first, second) = self.bytes.split_at(self.numbers[0] as usize);
-        if self.call < COPY_BITS { (first.to_vec(), second.to_vec()) } else { (second.to_vec(), first.to_vec()) }
+        if self.window_first() { (first.to_vec(), second.to_vec()) } else { (second.to_vec(), first.to_vec()) }
     }
 
     fn joined(&self, own: Vec<u8>, other: Vec<u8>) -> Vec<u8> {
-        if self.call < COPY_BITS { [own, other].concat() } else { [other, own].concat() }
+        if self.window_first() { [own, other].concat() } else { [other, own].concat() }
     }
 
     fn source_window(&self) -> Window {
@@ -161,7 +180,15 @@ impl BitCase {
                 b.copy_bits(&mut source, n);
                 value(source.get_raw_pos())
             }
-            _ => (b.copy_bits_from_bitarr(other), done()).1,
+            FROM_BITARR => (b.copy_bits_from_bitarr(other), done()).1,
+            _ => {
+                let bits = window_bits(b);
+                // the original makes a vector of its own, and has no destination that may be too short
+                if let Some(to) = other.get_mut(..bits.len()) {
+                    to.copy_from_slice(&bits);
+                }
+                value(bits.len())
+            }
         }
     }
 
@@ -228,6 +255,7 @@ impl BitCase {
             PEEK_STARTOFFSET => (w.start as u128 + n(0) + n(1) > w.end as u128).then_some((2, 1)),
             SEEK => (w.start as u128 + n(0) > w.end as u128).then_some((4, 13)),
             READ_INTO_SLICE => (n(1) > self.left() as u128).then_some((4, 1)),
+            INTO_BITVEC => (self.parts().1.len() < w.end - w.start).then_some((12, 2)),
             _ => None,
         }
     }

@@ -41,6 +41,10 @@ fn of_two(g: &mut Rng, visit: Visit, s: &[u8], w: Window) {
             put(visit, FROM_BITARR, &[bits, s.to_vec()].concat(), w, &[room as u64]);
         }
     }
+    let whole = w.end.saturating_sub(w.start).min(24);
+    for room in [whole.saturating_sub(1), whole, whole + 1, whole + 9] {
+        put(visit, INTO_BITVEC, &[s.to_vec(), cases::bytes(g, room)].concat(), w, &[s.len() as u64]);
+    }
     for most in [left, left + 1] {
         let k = g.below(4) as usize;
         let from = cases::bytes(g, k);
@@ -141,6 +145,7 @@ pub fn bad_windows(g: &mut Rng, visit: Visit) {
                 let two = [s[0], 0];
                 put(visit, READ_INTO_SLICE, &two, w, &[1, 1]);
                 put(visit, TO_BITARR, &two, w, &[1]);
+                put(visit, INTO_BITVEC, &two, w, &[1]);
                 put(visit, FROM_BITARR, &[1, s[0]], w, &[1]);
                 put(visit, COPY_BITS, &two, w, &[1, 1, 0, 0, 8]);
                 let good = Window { start: 0, pos: 0, end: 8 };
@@ -181,6 +186,10 @@ pub fn random(g: &mut Rng, visit: Visit) {
         8 => {
             let bits: Vec<u8> = (0..short).map(|_| if g.once_in(400) { 3 } else { g.flag() as u8 }).collect();
             put(visit, FROM_BITARR, &[bits, s].concat(), w, &[short as u64]);
+        }
+        9 => {
+            let room = (w.end - w.start + g.below(4) as usize).saturating_sub(1).min(100);
+            put(visit, INTO_BITVEC, &[s, cases::bytes(g, room)].concat(), w, &[k]);
         }
         _ => {
             let from_len = g.below(21) as usize;

@@ -1,6 +1,8 @@
-//! The helpers of the original's enums and headers that have no C call, each on every value of its domain: calls 80 to 109 of crates/replay. A
-//! case of an enum is told by its name, counted as it is declared; a reservation by what it asks for, 0 a subslot, 99 more than 68 slots.
+//! The helpers of the original's enums and headers that have no C call, each on every value of its domain: calls 80 to 110 of crates/replay. A
+//! case of an enum is told by its name, counted as it is declared; a reservation by what it asks for, 0 a subslot, 99 more than 68 slots. A
+//! number that has no case has no word.
 use crate::original::{self, told};
+use tetra_core::TetraAddress;
 use tetra_pdus::umac::enums::access_assign_dl_usage::AccessAssignDlUsage as Dl;
 use tetra_pdus::umac::enums::access_assign_ul_usage::AccessAssignUlUsage as Ul;
 use tetra_pdus::umac::enums::access_code::AccessCode;
@@ -87,23 +89,39 @@ fn asked(r: Reservation) -> (u64, u8) {
     }
 }
 
+/// What a capacity grants; 3 where the original stops at the question, which its own comments answer.
+fn granted(a: Capacity) -> (u64, u8) {
+    match told(|| Some(a.to_req_slotcount())) {
+        Ok(n) => (n as u64, 0),
+        Err(_) => (if a == Capacity::FirstSubslotGranted { 0 } else { 99 }, 3),
+    }
+}
+
+fn delay_kind(delay: Delay) -> u64 {
+    match delay {
+        Delay::CapAllocAtNextOpportunity => 0,
+        Delay::DelayNOpportunities(_) => 1,
+        Delay::AllocStartsAtOpportunityInFr18 => 2,
+        Delay::WaitForAnotherSlotgrantMessage => 3,
+    }
+}
+
+/// The name's place and the code of the case that a number has.
+fn case<T: TryFrom<u64> + Copy>(v: u64, name: impl Fn(T) -> u64, code: impl Fn(T) -> u64) -> Vec<u64> {
+    T::try_from(v).map(|case| vec![name(case), code(case)]).unwrap_or_default()
+}
+
 fn codes(all: &mut Vec<Helper>) {
-    for v in 0..16u64 {
-        let capacity = Capacity::try_from(v).unwrap();
-        all.push((80, vec![v], vec![place(&CAPACITIES, capacity), u64::from(capacity)], 0));
-        let delay = Delay::try_from(v).unwrap();
-        let kind = match delay {
-            Delay::CapAllocAtNextOpportunity => 0,
-            Delay::DelayNOpportunities(_) => 1,
-            Delay::AllocStartsAtOpportunityInFr18 => 2,
-            Delay::WaitForAnotherSlotgrantMessage => 3,
-        };
-        all.push((81, vec![v], vec![kind, u64::from(delay)], 0));
-        let reservation = Reservation::try_from(v).unwrap();
-        let (slots, class) = asked(reservation);
-        all.push((83, vec![v], vec![slots, u64::from(reservation)], class));
-        let length = BaseFrameLength::try_from(v).unwrap();
-        all.push((86, vec![v], vec![place(&FRAME_LENGTHS, length), length.into_raw()], 0));
+    for v in (0..256u64).chain([65535, u64::MAX]) {
+        all.push((80, vec![v], case(v, |a| place(&CAPACITIES, a), Capacity::into), 0));
+        all.push((81, vec![v], case(v, delay_kind, Delay::into), 0));
+        let class = Reservation::try_from(v).map_or(0, |r| asked(r).1);
+        all.push((83, vec![v], case(v, |r| asked(r).0, Reservation::into), class));
+        all.push((85, vec![v], case(v, access_code, AccessCode::into_raw), 0));
+        all.push((86, vec![v], case(v, |l| place(&FRAME_LENGTHS, l), BaseFrameLength::into_raw), 0));
+        let f = AccessField::try_from(v).unwrap();
+        all.push((87, vec![v], vec![access_code(f.access_code), place(&FRAME_LENGTHS, f.base_frame_len), f.into_raw()], 0));
+        all.push((88, vec![v], case(v, |t| place(&ADDR_TYPES, t), AddrType::into), 0));
     }
     for n in 0..256u64 {
         all.push((82, vec![n], vec![Delay::DelayNOpportunities(n as u8).into_raw()], 0));
@@ -111,18 +129,30 @@ fn codes(all: &mut Vec<Helper>) {
     for req in (0..=130).chain([255, 256, 65535, 1 << 32, u64::MAX]) {
         let reservation = Reservation::from_req_slotcount(req as usize);
         all.push((84, vec![req], vec![asked(reservation).0, reservation.into_raw()], 0));
+        match told(|| Some(Capacity::from_req_slotcount(req as usize))) {
+            Ok(a) => all.push((89, vec![req], vec![place(&CAPACITIES, a), a.into_raw()], 0)),
+            Err(_) => all.push((89, vec![req], vec![], 3)),
+        }
     }
-    for v in 0..4u64 {
-        let code = AccessCode::try_from(v).unwrap();
-        all.push((85, vec![v], vec![access_code(code), code.into_raw()], 0));
+    for a in CAPACITIES {
+        let (slots, class) = granted(a);
+        all.push((90, vec![a.into_raw()], vec![slots], class));
     }
-    for v in (0..256).chain([65535, u64::MAX]) {
-        let f = AccessField::try_from(v).unwrap();
-        all.push((87, vec![v], vec![access_code(f.access_code), place(&FRAME_LENGTHS, f.base_frame_len), f.into_raw()], 0));
-    }
-    for v in 0..8u64 {
-        let t = AddrType::try_from(v).unwrap();
-        all.push((88, vec![v], vec![place(&ADDR_TYPES, t), u64::from(t)], 0));
+}
+
+/// An SSI of each kind as an address, of which the original has one type for both directions.
+fn addresses(all: &mut Vec<Helper>) {
+    for ssi in [0, 1, (1 << 24) - 1, u32::MAX] {
+        for kind in 0..3 {
+            let made = original::ssi(kind, ssi as u64);
+            for call in [91, 93] {
+                all.push((call, vec![ssi as u64, kind], vec![made.ssi as u64, original::kind_of(made.ssi_type)], 0));
+            }
+        }
+        let made = TetraAddress::issi(ssi);
+        for call in [92, 94] {
+            all.push((call, vec![ssi as u64], vec![made.ssi as u64, original::kind_of(made.ssi_type)], 0));
+        }
     }
 }
 
@@ -194,11 +224,14 @@ fn headers(all: &mut Vec<Helper>) {
     all.push((108, vec![], [vec![0], null.to_vec()].concat(), 0));
     let marks = [mac_resource::MAC_RESOURCE_LENGTH_FRAG_START, mac_resource::MAC_RESOURCE_LENGTH_2ND_SLOT_STOLEN];
     all.push((109, vec![], marks.map(u64::from).to_vec(), 0));
+    let default = original::resource_words(&mac_resource::MacResource::default());
+    all.push((110, vec![], [vec![0], default.to_vec()].concat(), 0));
 }
 
 pub fn all() -> Vec<Helper> {
     let mut all = vec![];
     codes(&mut all);
+    addresses(&mut all);
     usages(&mut all);
     headers(&mut all);
     all

@@ -38,6 +38,7 @@ fn told(did: &Did) -> String {
 fn entries(c: &BitCase, did: &Option<Did>) -> Vec<&'static str> {
     let moved = |d: &Did| d.window != c.window || d.bytes != c.bytes;
     match (c.must(did), did) {
+        (Must::Differ(12, _), _) => vec!["12"],
         (Must::Differ(entry, _), _) => vec![["", "1", "2", "3", "4"][entry as usize]],
         (Must::Refuse(_), Some(d)) => {
             let panics = d.words.as_ref().is_err_and(|why| why != "gives none");

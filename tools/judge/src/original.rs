@@ -91,7 +91,7 @@ pub fn channel(r: &[u64]) -> ChanAllocElement {
     }
 }
 
-fn kind_of(t: SsiType) -> u64 {
+pub fn kind_of(t: SsiType) -> u64 {
     match t {
         SsiType::Issi => 1,
         SsiType::Gssi => 2,
@@ -99,7 +99,7 @@ fn kind_of(t: SsiType) -> u64 {
     }
 }
 
-fn ssi(kind: u64, n: u64) -> TetraAddress {
+pub fn ssi(kind: u64, n: u64) -> TetraAddress {
     TetraAddress::new(n.min(u32::MAX as u64) as u32, [SsiType::Ssi, SsiType::Issi, SsiType::Gssi][kind as usize])
 }
 

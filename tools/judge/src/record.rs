@@ -2,7 +2,7 @@
 //!
 //! A number is one byte below 248, or 247 + n and then n bytes, most significant first. A record is its length, and then:
 //! - the call: 0 to 5 reads and 16 to 21 writes of the six types in the order of KINDS; 32 read_bits, 33 peek_bits_posoffset, 34 write_bits;
-//!   40 compute_len, 41 compute_header_len, 42 update_len_and_fill_ind; 48 to 75 the bit buffer's (`bit_calls`), 80 to 109 helpers
+//!   40 compute_len, 41 compute_header_len, 42 update_len_and_fill_ind; 48 to 76 the bit buffer's (`bit_calls`), 80 to 110 helpers
 //!   (`helpers`), 112 to 114 a block's step, add and finish;
 //! - what the original did: 0 completed, 1 refused, 2 refused since the bits are at their end, 3 stopped where a listed difference has this
 //!   port complete, 16 + n completed where one has this port refuse by the number n, 32 + n refused, and this port by the number n;
@@ -433,7 +433,7 @@ fn bit_buffer(l: &mut List, g: &mut Rng) {
     bit_cases::in_chunks(&mut |c| one_in(1, c));
     bit_cases::windows(g, &mut |c| one_in(1, c), 0);
     bit_cases::windows(g, &mut |c| one_in(3, c), 1);
-    bit_cases::bad_windows(g, &mut |c| one_in(7, c));
+    bit_cases::bad_windows(g, &mut |c| one_in(5, c));
     (0..1500).for_each(|_| bit_cases::random(g, &mut |c| one_in(1, c)));
 }
 
