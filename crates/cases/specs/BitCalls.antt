@@ -1,4 +1,4 @@
--- The calls of the bit buffer that crates/replay has no answers of, on boundary values: what the definitions give that the contracts cite, and
+-- The calls of the bit buffer that have no C call, on boundary values: what the definitions give that the contracts cite, and
 -- what it should be. `proofs/Cases.antt` computes every row.
 use mathlib.Core.Path.{_≡_}
 use mathlib.Core.Bool.{true, false}

@@ -29,13 +29,13 @@ pub struct Record {
 }
 
 // Bytes before any is taken.
-pub fn no_bytes() -> [u8; 32] {
-    [0u8; 32]
+pub fn no_bytes() -> [u8; 128] {
+    [0u8; 128]
 }
 
 // Words that no call wrote.
-pub fn untouched() -> [u64; 32] {
-    [UNTOUCHED; 32]
+pub fn untouched() -> [u64; 40] {
+    [UNTOUCHED; 40]
 }
 
 fn octet(s: &[u8], at: usize) -> u8 {
@@ -79,11 +79,11 @@ pub fn take(s: &[u8], at: usize) -> Number {
     }
 }
 
-// A count and that many numbers, 32 at most.
-pub fn take_words(s: &[u8], at: usize, into: &mut [u64; 32]) -> Words {
+// A count and that many numbers, 40 at most.
+pub fn take_words(s: &[u8], at: usize, into: &mut [u64; 40]) -> Words {
     let c = take(s, at);
     let count = c.value;
-    if 32 < count {
+    if 40 < count {
         return Words {
             count: 0,
             next: FAR,
@@ -91,7 +91,7 @@ pub fn take_words(s: &[u8], at: usize, into: &mut [u64; 32]) -> Words {
     }
     let mut next = c.next;
     let mut i: usize = 0;
-    while i < 32 {
+    while i < 40 {
         if count <= i as u64 {
             return Words { count: i, next };
         }
@@ -100,14 +100,14 @@ pub fn take_words(s: &[u8], at: usize, into: &mut [u64; 32]) -> Words {
         next = v.next;
         i += 1;
     }
-    Words { count: 32, next }
+    Words { count: 40, next }
 }
 
 // Of pairs, each the count of those that it stands for and what holds for them, what holds for number i.
-pub fn run_of(pairs: &[u64; 32], i: u64) -> u64 {
+pub fn run_of(pairs: &[u64; 40], i: u64) -> u64 {
     let mut left = i;
     let mut k: usize = 0;
-    while k < 31 {
+    while k < 39 {
         if left < pairs[k] {
             return pairs[k + 1];
         }
@@ -117,10 +117,10 @@ pub fn run_of(pairs: &[u64; 32], i: u64) -> u64 {
     0
 }
 
-// n bytes, 32 at most.
-pub fn take_bytes(s: &[u8], at: usize, n: usize, into: &mut [u8; 32]) {
+// n bytes, 128 at most.
+pub fn take_bytes(s: &[u8], at: usize, n: usize, into: &mut [u8; 128]) {
     let mut i: usize = 0;
-    while i < 32 {
+    while i < 128 {
         if n <= i {
             return;
         }

@@ -1,76 +1,21 @@
 // Replays the answers of the original that the list, standard input, has over the proved library. It prints how many calls of each kind
 // answered alike, and each that did not.
-mod calls;
 mod list;
+mod names;
 
 use libc::STDIN_FILENO;
 use libc::STDOUT_FILENO;
 use list::Record;
-
-// ---- printing
-
-fn text(t: &[u8]) {
-    io::write_all(STDOUT_FILENO, t);
-}
-
-fn digits(n: u64) {
-    text(b" ");
-    io::print_decimal(STDOUT_FILENO, n);
-}
-
-fn kind(k: u64) {
-    match k {
-        0 => text(b" slot grant"),
-        1 => text(b" channel allocation"),
-        2 => text(b" MAC-RESOURCE"),
-        3 => text(b" ACCESS-ASSIGN"),
-        4 => text(b" MAC-ACCESS"),
-        5 => text(b" MAC-DATA"),
-        _ => text(b" unknown"),
-    }
-}
-
-fn other(call: u64) {
-    match call {
-        32 => text(b"read_bits"),
-        33 => text(b"peek_bits_posoffset"),
-        34 => text(b"write_bits"),
-        40 => text(b"compute_len"),
-        41 => text(b"compute_header_len"),
-        42 => text(b"update_len_and_fill_ind"),
-        _ => text(b"unknown"),
-    }
-}
-
-fn name(call: u64) {
-    if call < 16 {
-        text(b"read");
-        kind(call);
-        return;
-    }
-    if call < 32 {
-        text(b"write");
-        kind(call - 16);
-        return;
-    }
-    other(call);
-}
-
-fn call_known(call: u64) -> bool {
-    match call {
-        0..=5 => true,
-        16..=21 => true,
-        32..=34 => true,
-        40..=42 => true,
-        _ => false,
-    }
-}
+use names::digits;
+use names::text;
+use replay_calls::answers;
+use tetra_core::bitbuffer::Cursor;
 
 // ---- counting: for each call the cases that are equal, refused by both, refused by both at the same bit, a listed difference, and not as
-// recorded; at 240 all cases
+// recorded; at 640 all cases
 
-fn add(counts: &mut [u64; 241], at: u64) {
-    if at < 241 {
+fn add(counts: &mut [u64; 641], at: u64) {
+    if at < 641 {
         let i = at as usize;
         counts[i] = std::num::wrapping_add_u64(counts[i], 1);
     }
@@ -83,48 +28,51 @@ fn column(class: u64, same: bool) -> u64 {
     if class < 3 {
         return class;
     }
+    if 32 < class {
+        return 1;
+    }
     3
 }
 
 // Where a call's cases are counted.
 fn place(call: u64, column: u64) -> u64 {
-    if 47 < call {
-        return 240;
+    if 127 < call {
+        return 640;
     }
     if 4 < column {
-        return 240;
+        return 640;
     }
     5 * call + column
 }
 
-fn count(counts: &mut [u64; 241], call: u64, class: u64, same: bool) {
+fn count(counts: &mut [u64; 641], call: u64, class: u64, same: bool) {
     add(counts, place(call, column(class, same)));
-    add(counts, 240);
+    add(counts, 640);
 }
 
-fn counted(counts: &[u64; 241], at: u64) -> u64 {
-    if at < 241 { counts[at as usize] } else { 0 }
+fn counted(counts: &[u64; 641], at: u64) -> u64 {
+    if at < 641 { counts[at as usize] } else { 0 }
 }
 
 // The last column of every call together.
-fn different(counts: &[u64; 241]) -> u64 {
+fn different(counts: &[u64; 641]) -> u64 {
     let mut sum: u64 = 0;
     let mut call: u64 = 0;
-    while call < 48 {
+    while call < 128 {
         sum = std::num::wrapping_add_u64(sum, counted(counts, place(call, 4)));
         call += 1;
     }
     sum
 }
 
-fn row(counts: &[u64; 241], call: u64) {
+fn row(counts: &[u64; 641], call: u64) {
     let refused = counted(counts, place(call, 1));
     let stopped = counted(counts, place(call, 2));
     let different = counted(counts, place(call, 4));
-    if !call_known(call) {
+    if !names::call_known(call) {
         return;
     }
-    name(call);
+    names::name(call);
     text(b":");
     digits(counted(counts, place(call, 0)));
     text(b" equal,");
@@ -146,26 +94,26 @@ fn row(counts: &[u64; 241], call: u64) {
 
 // ---- comparing
 
-fn differing_word(a: &[u64; 32], b: &[u64; 32]) -> usize {
+fn differing_word(a: &[u64; 40], b: &[u64; 40]) -> usize {
     let mut i: usize = 0;
-    while i < 32 {
+    while i < 40 {
         if a[i] != b[i] {
             return i;
         }
         i += 1;
     }
-    32
+    40
 }
 
-fn differing_byte(a: &[u8; 32], b: &[u8; 32]) -> usize {
+fn differing_byte(a: &[u8; 128], b: &[u8; 128]) -> usize {
     let mut i: usize = 0;
-    while i < 32 {
+    while i < 128 {
         if a[i] != b[i] {
             return i;
         }
         i += 1;
     }
-    32
+    128
 }
 
 // A refused read's status has the bit of the field too.
@@ -182,7 +130,7 @@ fn refusal(call: u64, status: u64) -> u64 {
     status
 }
 
-// Whether a refusal is what the class asks for: none, any, number 1, or that of the listed difference.
+// Whether a refusal is what the class asks for: none, any, number 1, or the number that is recorded.
 fn agrees(class: u64, number: u64) -> bool {
     if 14 < number {
         return false;
@@ -191,6 +139,8 @@ fn agrees(class: u64, number: u64) -> bool {
         0 => number == 0,
         1 => 0 < number,
         2 => number == 1,
+        3 => number == 0,
+        33..=46 => 32 + number == class,
         _ => 16 + number == class,
     }
 }
@@ -208,7 +158,7 @@ fn case(n: u64, call: u64) {
     text(b"case");
     digits(n);
     text(b", ");
-    name(call);
+    names::name(call);
     text(b":");
 }
 
@@ -232,6 +182,10 @@ fn told_status(status: u64, class: u64, bit: u64) {
             text(b", recorded as 1 at bit");
             digits(bit);
         }
+        33..=46 => {
+            text(b", recorded as");
+            digits(class - 32);
+        }
         _ => text(b", recorded as a listed difference"),
     }
     text(b"\n");
@@ -240,13 +194,13 @@ fn told_status(status: u64, class: u64, bit: u64) {
 fn same(
     n: u64,
     call: u64,
-    out: &[u64; 32],
-    want: &[u64; 32],
-    bytes: &[u8; 32],
-    left: &[u8; 32],
+    out: &[u64; 40],
+    want: &[u64; 40],
+    bytes: &[u8; 128],
+    left: &[u8; 128],
 ) -> bool {
     let i = differing_word(out, want);
-    if i < 32 {
+    if i < 40 {
         case(n, call);
         text(b" word");
         digits(i as u64);
@@ -254,7 +208,7 @@ fn same(
         return false;
     }
     let j = differing_byte(bytes, left);
-    if j < 32 {
+    if j < 128 {
         case(n, call);
         text(b" byte");
         digits(j as u64);
@@ -270,16 +224,36 @@ fn writes(call: u64) -> bool {
     match call {
         16..=31 => true,
         34 => true,
+        68..=79 => true,
+        113 => true,
+        114 => true,
+        _ => false,
+    }
+}
+
+// Whether the record has the words of an answer: where the original completed, and of the later calls always.
+fn answered(call: u64, class: u64) -> bool {
+    if class == 0 {
+        return true;
+    }
+    47 < call
+}
+
+// Whether it has the bytes that the call left: where it completes and writes.
+fn leaves(call: u64, class: u64) -> bool {
+    match class {
+        0 => writes(call),
+        3 => writes(call),
         _ => false,
     }
 }
 
 // The words and the bytes that a call has to leave, from the record's answer at a place; the record's end.
-fn expected(s: &[u8], r: Record, at: usize, want: &mut [u64; 32], left: &mut [u8; 32]) -> usize {
+fn expected(s: &[u8], r: Record, at: usize, want: &mut [u64; 40], left: &mut [u8; 128]) -> usize {
     list::take_bytes(s, r.bytes, r.len, left);
-    if r.class == 0 {
+    if answered(r.call, r.class) {
         let answer = list::take_words(s, at, want);
-        if writes(r.call) {
+        if leaves(r.call, r.class) {
             list::take_bytes(s, answer.next, r.len, left);
             return list::ahead(answer.next, r.len as u64);
         }
@@ -314,18 +288,71 @@ fn stops_fit(s: &[u8], r: Record, at: usize) -> bool {
     stop(s, r.class, at, r.ends as u64) == list::UNTOUCHED
 }
 
+// The call on the record's bytes and numbers, which stand at the start of given, s and words.
+fn cut(
+    r: Record,
+    end: usize,
+    given: &[u8],
+    s: &mut [u8],
+    words: &[u64],
+    count: usize,
+    out: &mut [u64; 40],
+) -> u64 {
+    let n = r.len;
+    let start = r.start;
+    let pos = r.pos;
+    if given.len() < n {
+        return answers::MALFORMED;
+    }
+    if s.len() < n {
+        return answers::MALFORMED;
+    }
+    if words.len() < count {
+        return answers::MALFORMED;
+    }
+    let window = Cursor { start, pos, end };
+    replay_calls::call(
+        r.call,
+        &given[..n],
+        &mut s[..n],
+        window,
+        &words[..count],
+        out,
+    )
+}
+
+// The status of a record's call, with the end of its window and the call's numbers given.
+fn call(
+    r: Record,
+    end: usize,
+    given: &[u8; 128],
+    s: &mut [u8; 128],
+    words: &[u64; 40],
+    count: usize,
+    out: &mut [u64; 40],
+) -> u64 {
+    cut(r, end, given, s, words, count, out)
+}
+
+// The end of window i of a record. The first stands as it is recorded, however far.
+fn end_of(end: usize, i: u64) -> usize {
+    if i == 0 { end } else { list::ahead(end, i) }
+}
+
 // The call on window i of a record, case n of all: whether it answers as recorded.
 fn answers(s: &[u8], r: Record, i: u64, n: u64) -> bool {
+    let mut given = list::no_bytes();
     let mut bytes = list::no_bytes();
     let mut words = list::untouched();
     let mut out = list::untouched();
     let mut want = list::untouched();
     let mut left = list::no_bytes();
+    list::take_bytes(s, r.bytes, r.len, &mut given);
     list::take_bytes(s, r.bytes, r.len, &mut bytes);
     let w = list::take_words(s, r.numbers, &mut words);
     expected(s, r, w.next, &mut want, &mut left);
-    let end = list::ahead(r.end, i);
-    let status = calls::call(r, end, &mut bytes, &words, w.count, &mut out);
+    let end = end_of(r.end, i);
+    let status = call(r, end, &given, &mut bytes, &words, w.count, &mut out);
     let bit = stop(s, r.class, w.next, i);
     if !status_agrees(r.call, r.class, status, bit) {
         case(n, r.call);
@@ -338,8 +365,9 @@ fn answers(s: &[u8], r: Record, i: u64, n: u64) -> bool {
 // Refusals are numbered 1 to 14.
 fn class_known(class: u64) -> bool {
     match class {
-        0..=2 => true,
+        0..=3 => true,
         17..=30 => true,
+        33..=46 => true,
         _ => false,
     }
 }
@@ -349,13 +377,13 @@ fn well_formed(s: &[u8], r: Record, last: usize) -> bool {
     let mut words = list::untouched();
     let mut want = list::untouched();
     let mut left = list::no_bytes();
-    if !call_known(r.call) {
+    if !names::call_known(r.call) {
         return false;
     }
     if !class_known(r.class) {
         return false;
     }
-    if 32 < r.len {
+    if 128 < r.len {
         return false;
     }
     if r.ends == 0 {
@@ -372,11 +400,11 @@ fn well_formed(s: &[u8], r: Record, last: usize) -> bool {
 }
 
 // The calls of a record, one for each end that it stands for.
-fn ends(s: &[u8], r: Record, counts: &mut [u64; 241]) {
+fn ends(s: &[u8], r: Record, counts: &mut [u64; 641]) {
     let times = r.ends;
     let mut i: usize = 0;
     while i < times {
-        let n = counted(counts, 240);
+        let n = counted(counts, 640);
         let right = answers(s, r, i as u64, n);
         count(counts, r.call, r.class, right);
         i += 1;
@@ -384,7 +412,7 @@ fn ends(s: &[u8], r: Record, counts: &mut [u64; 241]) {
 }
 
 // The record from first to last, unless it is malformed.
-fn replayed(s: &[u8], first: usize, last: usize, counts: &mut [u64; 241]) -> bool {
+fn replayed(s: &[u8], first: usize, last: usize, counts: &mut [u64; 641]) -> bool {
     let r = list::take_record(s, first);
     if !well_formed(s, r, last) {
         return false;
@@ -395,14 +423,25 @@ fn replayed(s: &[u8], first: usize, last: usize, counts: &mut [u64; 241]) -> boo
 
 // ---- the list
 
-// Whether the list was well-formed to its end, and the byte that it was taken to.
+// The bytes of a page of the list. No record goes from one page to the next.
+const PAGE: usize = 16384;
+
+// Whether a page was well-formed to its end, and the byte that it was taken to.
 struct Ended {
     whole: bool,
     at: usize,
 }
 
-// Replays the records up to that of length 0, which has to be the list's last byte.
-fn replay(s: &[u8], counts: &mut [u64; 241]) -> Ended {
+// Whether the record of length 0 stands where it may: what is behind it fills up a page, or there is nothing.
+fn fills(last: usize, len: usize) -> bool {
+    if len == PAGE {
+        return true;
+    }
+    last == len
+}
+
+// Replays the records of a page up to that of length 0.
+fn replay(s: &[u8], counts: &mut [u64; 641]) -> Ended {
     let mut at: usize = 0;
     while at < s.len() {
         let length = list::take(s, at);
@@ -416,7 +455,7 @@ fn replay(s: &[u8], counts: &mut [u64; 241]) -> Ended {
         }
         if length.value == 0 {
             return Ended {
-                whole: last == s.len(),
+                whole: fills(last, s.len()),
                 at: last,
             };
         }
@@ -428,26 +467,68 @@ fn replay(s: &[u8], counts: &mut [u64; 241]) -> Ended {
     Ended { whole: false, at }
 }
 
-fn rows(counts: &[u64; 241]) {
+// What came of a page: nothing to read, replayed, or malformed at a byte.
+enum Page {
+    Nothing,
+    Replayed,
+    Malformed(usize),
+}
+
+fn next_page(counts: &mut [u64; 641]) -> Page {
+    let mut room = [0u8; 16384];
+    let n = io::read_full(STDIN_FILENO, &mut room);
+    if n == 0 {
+        return Page::Nothing;
+    }
+    let ended = replay(&room[..n], counts);
+    if ended.whole {
+        return Page::Replayed;
+    }
+    Page::Malformed(ended.at)
+}
+
+fn malformed(page: u64, at: u64) {
+    text(b"MALFORMED list, page");
+    digits(page);
+    text(b" at byte");
+    digits(at);
+    text(b"\n");
+}
+
+// All pages, one after the other: a list has one at least.
+fn pages(counts: &mut [u64; 641]) {
+    let mut page: u64 = 0;
+    while page < 1048576 {
+        match next_page(counts) {
+            Page::Nothing => {
+                if page == 0 {
+                    malformed(page, 0);
+                }
+                return;
+            }
+            Page::Replayed => {}
+            Page::Malformed(at) => {
+                malformed(page, at as u64);
+                return;
+            }
+        }
+        page += 1;
+    }
+}
+
+fn rows(counts: &[u64; 641]) {
     let mut call: u64 = 0;
-    while call < 48 {
+    while call < 128 {
         row(counts, call);
         call += 1;
     }
 }
 
 fn main() {
-    let mut counts = [0u64; 241];
-    let mut room = [0u8; 327680];
-    let n = io::read_full(STDIN_FILENO, &mut room);
-    let ended = replay(&room[..n], &mut counts);
+    let mut counts = [0u64; 641];
+    pages(&mut counts);
     rows(&counts);
-    if !ended.whole {
-        text(b"MALFORMED list, at byte");
-        digits(ended.at as u64);
-        text(b"\n");
-    }
-    io::print_decimal(STDOUT_FILENO, counted(&counts, 240));
+    io::print_decimal(STDOUT_FILENO, counted(&counts, 640));
     text(b" cases,");
     digits(different(&counts));
     text(b" differences\n");

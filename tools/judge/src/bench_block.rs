@@ -5,7 +5,7 @@
 //! time. Beside adds and a finish: `update_len_and_fill_ind`, the header, the content copied and the fill, for each PDU, then the null PDU
 //! and fill.
 use crate::bench::{Operation, calls};
-use crate::block::put_fill;
+use crate::their_block::put_fill;
 use crate::model;
 use crate::original;
 use std::hint::black_box;

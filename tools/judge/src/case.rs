@@ -1,9 +1,10 @@
 //! One case: a call and its inputs, what both sides answer, and the class of the two answers.
-use crate::block::{self, Add};
+use crate::block;
 use crate::bound;
 use crate::kind::{listed_read, listed_write};
 use crate::original::{self, caught};
 use crate::ours::{self, Kind, Out, Refusal, Window};
+use crate::their_block::{self, Add, OnBlock, Theirs};
 use tetra_core::BitBuffer;
 use tetra_core::pdu_parse_error::PduParseErr;
 
@@ -24,7 +25,7 @@ pub enum Call {
     UpdateLen,
     /// Of a block: the window's pos is the call's bit, and its end the block's bits.
     Step,
-    /// Numbers: those of `block::Add`.
+    /// Numbers: those of `their_block::Add`.
     Add,
     Finish,
 }
@@ -59,20 +60,6 @@ impl Call {
     }
 }
 
-/// What the original answers.
-pub enum Theirs {
-    Done(Vec<u64>),
-    /// Its own error or None: the bits are at their end, or a value has no meaning.
-    Ended,
-    Invalid,
-    /// It panics, with this message.
-    Panics(String),
-    /// A window that its setters do not take.
-    NoWindow,
-    /// A rule of document 01 for blocks refuses it: the number and the bit.
-    Rule(u8, usize),
-}
-
 fn theirs_on(c: &Case, b: &mut BitBuffer) -> Theirs {
     let n = &c.numbers;
     let value = |v: Option<u64>| v.map_or(Theirs::Ended, |v| Theirs::Done(vec![v]));
@@ -100,17 +87,14 @@ fn theirs_on(c: &Case, b: &mut BitBuffer) -> Theirs {
             let fill = h.update_len_and_fill_ind(n[25] as usize);
             Theirs::Done(vec![h.length_ind as u64, h.fill_bits as u64, fill as u64])
         }
-        Call::Step => block::theirs_step(c, b),
-        Call::Add => block::theirs_add(c, b),
-        Call::Finish => block::theirs_finish(c, b),
+        Call::Step => their_block::theirs_step(c.on_block(), b),
+        Call::Add => their_block::theirs_add(c.on_block(), b),
+        Call::Finish => their_block::theirs_finish(c.on_block(), b),
     }
 }
 
 fn theirs_or_panic(c: &Case, b: &mut BitBuffer) -> Theirs {
-    std::panic::catch_unwind(std::panic::AssertUnwindSafe(|| theirs_on(c, b))).unwrap_or_else(|why| {
-        let text = why.downcast_ref::<&str>().map(|t| t.to_string()).or_else(|| why.downcast_ref::<String>().cloned());
-        Theirs::Panics(text.unwrap_or_default())
-    })
+    original::told(|| Some(theirs_on(c, b))).unwrap_or_else(Theirs::Panics)
 }
 
 /// The cursor after the call, and the words of its answer.
@@ -212,6 +196,10 @@ fn listed(c: &Case, answer: &[u64], cursor: usize, r: Refusal) -> Option<u8> {
 }
 
 impl Case {
+    fn on_block(&self) -> OnBlock<'_> {
+        OnBlock { bytes: &self.bytes, window: self.window, numbers: &self.numbers }
+    }
+
     /// The row that it is counted in.
     pub fn name(&self) -> &'static str {
         match self.call {

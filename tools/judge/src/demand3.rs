@@ -1,6 +1,6 @@
 //! Demand 3 at run time: blocks that were written by runs, and blocks of random bits, walked, altered and walked again.
 use crate::altered::{Altered, walked};
-use crate::blocks;
+use crate::block_cases;
 use crate::cases::{self, Rng};
 use crate::runs::Run;
 use tetra_mac::block::BlockEntry;
@@ -49,11 +49,11 @@ fn written(g: &mut Rng, row: &mut Row, wrong: &mut Wrong) -> Option<(Vec<u8>, us
 }
 
 fn random_bits(g: &mut Rng, framed: bool) -> (Vec<u8>, usize) {
-    let n = blocks::size(g);
+    let n = block_cases::size(g);
     let spare = g.below(4) as usize;
     let mut bytes = cases::bytes(g, n.div_ceil(8) + spare);
     if framed {
-        blocks::framed(g, &mut bytes, n);
+        block_cases::framed(g, &mut bytes, n);
     }
     (bytes, n)
 }

@@ -3,6 +3,7 @@ mod altered;
 mod bench;
 mod bench_block;
 mod block;
+mod block_cases;
 mod blocks;
 mod bound;
 mod case;
@@ -17,6 +18,7 @@ mod ours;
 mod runs;
 mod sweep;
 mod sweep_block;
+mod their_block;
 
 fn number(words: &[String], at: usize, otherwise: u64) -> u64 {
     words.get(at).map_or(otherwise, |v| v.parse().expect("a number"))

@@ -18,6 +18,17 @@ pub fn caught<T>(f: impl FnOnce() -> Option<T>) -> Option<T> {
     std::panic::catch_unwind(std::panic::AssertUnwindSafe(f)).ok().flatten()
 }
 
+/// What it gives, or why it stops: the message of its panic, or that it gives none.
+pub fn told<T>(f: impl FnOnce() -> Option<T>) -> Result<T, String> {
+    match std::panic::catch_unwind(std::panic::AssertUnwindSafe(f)) {
+        Ok(answer) => answer.ok_or("gives none".to_string()),
+        Err(why) => {
+            let text = why.downcast_ref::<&str>().map(|t| t.to_string()).or_else(|| why.downcast_ref::<String>().cloned());
+            Err(text.unwrap_or_default())
+        }
+    }
+}
+
 /// None where BitBuffer's own setters refuse the window.
 pub fn buffer(s: &[u8], w: Window) -> Option<BitBuffer> {
     caught(|| {
@@ -80,7 +91,7 @@ pub fn channel(r: &[u64]) -> ChanAllocElement {
     }
 }
 
-fn kind_of(t: SsiType) -> u64 {
+pub fn kind_of(t: SsiType) -> u64 {
     match t {
         SsiType::Issi => 1,
         SsiType::Gssi => 2,
@@ -88,7 +99,7 @@ fn kind_of(t: SsiType) -> u64 {
     }
 }
 
-fn ssi(kind: u64, n: u64) -> TetraAddress {
+pub fn ssi(kind: u64, n: u64) -> TetraAddress {
     TetraAddress::new(n.min(u32::MAX as u64) as u32, [SsiType::Ssi, SsiType::Issi, SsiType::Gssi][kind as usize])
 }
 
@@ -176,7 +187,7 @@ fn dl_words(u: &Dl) -> (u64, u64) {
     }
 }
 
-fn dl(a: u64, b: u64) -> Dl {
+pub fn dl(a: u64, b: u64) -> Dl {
     match a {
         0 => Dl::Unallocated,
         1 => Dl::AssignedControl,
@@ -196,7 +207,7 @@ fn ul_words(u: &Ul) -> (u64, u64) {
     }
 }
 
-fn ul(a: u64, b: u64) -> Ul {
+pub fn ul(a: u64, b: u64) -> Ul {
     match a {
         0 => Ul::CommonOnly,
         1 => Ul::CommonAndAssigned,

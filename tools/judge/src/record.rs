@@ -2,21 +2,28 @@
 //!
 //! A number is one byte below 248, or 247 + n and then n bytes, most significant first. A record is its length, and then:
 //! - the call: 0 to 5 reads and 16 to 21 writes of the six types in the order of KINDS; 32 read_bits, 33 peek_bits_posoffset, 34 write_bits;
-//!   40 compute_len, 41 compute_header_len, 42 update_len_and_fill_ind;
-//! - what the original did: 0 completed, 1 refused, 2 refused since the bits are at their end, 16 + n completed where a listed difference has
-//!   this port refuse by the number n;
+//!   40 compute_len, 41 compute_header_len, 42 update_len_and_fill_ind; 48 to 76 the bit buffer's (`bit_calls`), 80 to 110 helpers
+//!   (`helpers`), 112 to 114 a block's step, add and finish;
+//! - what the original did: 0 completed, 1 refused, 2 refused since the bits are at their end, 3 stopped where a listed difference has this
+//!   port complete, 16 + n completed where one has this port refuse by the number n, 32 + n refused, and this port by the number n;
 //! - the bytes, after their count; start, pos and end of the window;
 //! - how many windows it stands for: this one, and those that end 1, 2, .. bits later, where the original did the same;
-//! - the call's numbers, after their count: none; the record of the type; the width; the offset + 1024 and the width; the value and the width;
-//!   the record and, for 42, the bits of content;
-//! - for 0 the words of the answer, after their count, the cursor first where the call has one, and the bytes that a call that writes left;
+//! - the call's numbers, after their count: none; the record of the type; the width; the offset, as its two's complement, and the width; the
+//!   value and the width; the record and, for 42, the bits of content; and as the later calls have them;
+//! - for 0, and from call 48 on for all, the words of this port's answer, after their count, the cursor first where the call has one; and for
+//!   0 and 3 the bytes that a call that writes left;
 //! - for 2 the bits from pos at which the original stopped, in pairs, after the count of their numbers: for how many windows, and the bit.
 //!
-//! A record of length 0 ends the list.
+//! The list is in pages of 16,384 bytes. A record of length 0 ends each; what is behind it up to the next page is 0, and the last page ends there.
+use crate::bit_calls::{BitCase, Did, Must};
+use crate::bit_cases;
 use crate::cases::{self, Rng};
+use crate::helpers::{self, Helper};
 use crate::kind::{KINDS, Kind, listed_read, listed_write};
 use crate::original::{self, caught};
 use crate::ours::Window;
+use crate::record_block;
+use crate::their_block::OnBlock;
 use crate::values;
 use std::collections::HashSet;
 use tetra_core::BitBuffer;
@@ -30,7 +37,8 @@ const CHANNEL_LEN: u8 = 40;
 const HEADER_LEN: u8 = 41;
 const UPDATE_LEN: u8 = 42;
 
-const NO_OFFSET: u64 = 1024;
+const PAGE: usize = 16384;
+
 const NO_WINDOW: Window = Window { start: 0, pos: 0, end: 0 };
 
 /// A call and what it is called on.
@@ -82,7 +90,7 @@ impl<'a> Case<'a> {
         let n = self.numbers;
         match self.call {
             READ_BITS => Some(vec![b.read_bits(n[0] as usize)?]),
-            PEEK_BITS => Some(vec![b.peek_bits_posoffset(n[0] as isize - NO_OFFSET as isize, n[1] as usize)?]),
+            PEEK_BITS => Some(vec![b.peek_bits_posoffset(n[0] as isize, n[1] as usize)?]),
             WRITE_BITS => {
                 b.write_bits(n[0], n[1] as usize);
                 Some(vec![])
@@ -116,8 +124,8 @@ impl<'a> Case<'a> {
     fn listed(&self, words: &[u64]) -> Option<u8> {
         let (n, w) = (self.numbers, self.window);
         match self.call {
-            PEEK_BITS => (w.pos as u64 + n[0] < w.start as u64 + NO_OFFSET).then_some(1),
-            UPDATE_LEN => (original::resource(n).compute_header_len() as u64 + n[25] > 488).then_some(8),
+            PEEK_BITS => ((w.pos as i128) + (n[0] as i64 as i128) < w.start as i128).then_some(1),
+            UPDATE_LEN => ((original::resource(n).compute_header_len() as u64).saturating_add(n[25]) > 488).then_some(8),
             call if call < WRITE => listed_read(KINDS[call as usize], words[0] as usize - w.pos, &words[1..]).map(|d| d.1),
             call if call < READ_BITS => listed_write(KINDS[(call - WRITE) as usize], n).map(|d| d.1),
             _ => None,
@@ -138,10 +146,10 @@ fn numbers(v: &[u64]) -> Vec<u8> {
 }
 
 #[derive(Default)]
-struct List {
-    bytes: Vec<u8>,
+pub struct List {
+    pub bytes: Vec<u8>,
     seen: HashSet<Vec<u8>>,
-    cases: u64,
+    pub cases: u64,
 }
 
 impl List {
@@ -150,9 +158,46 @@ impl List {
         let window = [w.start, w.pos, w.end, ends].map(|v| number(v as u64)).concat();
         let r = [&[c.call, class, c.bytes.len() as u8], c.bytes, &window, &numbers(c.numbers), answer].concat();
         if self.seen.insert(r.clone()) {
-            self.bytes.extend(number(r.len() as u64));
-            self.bytes.extend(r);
+            let record = [number(r.len() as u64), r].concat();
+            if self.bytes.len() % PAGE + record.len() + 1 > PAGE {
+                let pages = self.bytes.len().div_ceil(PAGE);
+                self.bytes.resize(pages * PAGE, 0);
+            }
+            self.bytes.extend(record);
             self.cases += ends as u64;
+        }
+    }
+
+    /// A call whose answer is given word for word, done or refused.
+    pub fn put_words(&mut self, call: u8, c: OnBlock, class: u8, words: &[u64], left: &[u8]) {
+        let case = Case { call, bytes: c.bytes, window: c.window, numbers: c.numbers };
+        self.put(case, 1, class, &[&numbers(words), left].concat());
+    }
+
+    /// A call of a helper: on no bytes, and done.
+    pub fn put_helper(&mut self, (call, numbers_given, words, class): &Helper) {
+        self.put(Case::length(*call, numbers_given), 1, *class, &numbers(words));
+    }
+
+    /// A call of the bit buffer, by what this port has to do.
+    pub fn put_bits(&mut self, c: &BitCase, did: &Option<Did>) {
+        let case = Case { call: c.call, bytes: &c.bytes, window: c.window, numbers: &c.numbers };
+        // a C call gives the cursor's bit alone, and the list has no number of its refusals
+        let c_call = c.call < 48;
+        match (c.must(did), did) {
+            (Must::Complete(words), Some(did)) if c_call => {
+                let left = if c.writes() { &did.bytes[..] } else { &[] };
+                self.put(case, 1, 0, &[&numbers(&[&words[1..2], &words[3..]].concat()), left].concat());
+            }
+            (Must::Differ(_, number), _) if c_call => self.put(case, 1, 16 + number, &[]),
+            (Must::Refuse(_), _) if c_call => self.put(case, 1, 1, &[]),
+            (Must::Complete(words), Some(did)) => {
+                let left = if c.writes() { &did.bytes[..] } else { &[] };
+                self.put(case, 1, 0, &[&numbers(&words), left].concat());
+            }
+            (Must::Differ(_, number), _) => self.put(case, 1, 16 + number, &numbers(&c.refused_words())),
+            (Must::Refuse(number), _) => self.put(case, 1, 32 + number, &numbers(&c.refused_words())),
+            (Must::Complete(_), None) => unreachable!("nothing was done"),
         }
     }
 
@@ -308,7 +353,7 @@ fn windows(l: &mut List, g: &mut Rng) {
         bad_windows(l, Case::read(k, &s, NO_WINDOW));
         bad_windows(l, Case::write(k, &s, NO_WINDOW, &values::forms(k)[0]));
     }
-    for (call, n) in [(READ_BITS, vec![3]), (PEEK_BITS, vec![NO_OFFSET, 3]), (WRITE_BITS, vec![5, 3])] {
+    for (call, n) in [(READ_BITS, vec![3]), (PEEK_BITS, vec![0, 3]), (WRITE_BITS, vec![5, 3])] {
         bad_windows(l, Case { call, bytes: &[1, 2, 3], window: NO_WINDOW, numbers: &n });
     }
 }
@@ -340,7 +385,7 @@ fn bits(l: &mut List, g: &mut Rng) {
             w.end = w.pos + width as usize + g.below((8 * n - w.pos) as u64 - width + 1) as usize;
         }
         l.add(Case { call: READ_BITS, bytes: &s, window: w, numbers: &[width] });
-        l.add(Case { call: PEEK_BITS, bytes: &s, window: w, numbers: &[NO_OFFSET + g.below(60) - 30, width / 3] });
+        l.add(Case { call: PEEK_BITS, bytes: &s, window: w, numbers: &[g.below(60).wrapping_sub(30), width / 3] });
         let shift = 64u64.saturating_sub(width).min(63);
         let value = match turn % 7 {
             0 => 0,
@@ -365,11 +410,31 @@ fn lengths(l: &mut List) {
         l.add(c);
         let header = c.lengths()[0];
         let every = [header, header + 1, 280, 281, 480, 487, 488, 489, 496, 497, 504, 505, 2040, 2048];
+        for content in [u64::MAX, u64::MAX - 15] {
+            l.add(Case::length(UPDATE_LEN, &[&r[..], &[content]].concat()));
+        }
         let some = [header + turn as u64, 488, 489];
         for total in if turn % 16 == 0 { &every[..] } else { &some[..] } {
             l.add(Case::length(UPDATE_LEN, &[&r[..], &[total.saturating_sub(header)]].concat()));
         }
     }
+}
+
+/// One in so many of the calls on every window of no byte and of one, and on windows that are none; and random calls.
+fn bit_buffer(l: &mut List, g: &mut Rng) {
+    let mut at = 0;
+    let mut one_in = |n: usize, c: BitCase| {
+        at += 1;
+        if at % n == 0 {
+            let did = c.did();
+            l.put_bits(&c, &did);
+        }
+    };
+    bit_cases::in_chunks(&mut |c| one_in(1, c));
+    bit_cases::windows(g, &mut |c| one_in(1, c), 0);
+    bit_cases::windows(g, &mut |c| one_in(3, c), 1);
+    bit_cases::bad_windows(g, &mut |c| one_in(5, c));
+    (0..1500).for_each(|_| bit_cases::random(g, &mut |c| one_in(1, c)));
 }
 
 pub fn list() -> Vec<u8> {
@@ -382,6 +447,9 @@ pub fn list() -> Vec<u8> {
     windows(&mut l, &mut g);
     bits(&mut l, &mut g);
     any(&mut l, &mut g, 75);
+    helpers::all().iter().for_each(|h| l.put_helper(h));
+    bit_buffer(&mut l, &mut g);
+    record_block::all(&mut l, &mut g, 120);
     l.bytes.push(0);
     println!("{} records, {} cases, {} bytes", l.seen.len(), l.cases, l.bytes.len());
     l.bytes

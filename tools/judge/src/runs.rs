@@ -1,7 +1,7 @@
 //! "A writer's run is a list of adds (content from other bytes) and finishes on one block of N bits, from bit 0 and any bytes": what it
 //! must leave.
 use crate::altered::walked;
-use crate::blocks;
+use crate::{block_cases, blocks};
 use crate::cases::{self, Rng};
 use crate::model;
 use crate::ours::Refusal;
@@ -54,8 +54,8 @@ fn normal(header: &MacResource, length_ind: u8, fill_bits: bool) -> MacResource 
 
 impl Add {
     fn random(g: &mut Rng, left: usize) -> Self {
-        let record = blocks::header(g);
-        let (length, content_bits, content) = blocks::added(g, &record, left);
+        let record = block_cases::header(g);
+        let (length, content_bits, content) = block_cases::added(g, &record, left);
         Add { header: blocks::value(&record), length: blocks::length_of(length), content_bits, content }
     }
 
@@ -93,7 +93,7 @@ fn changed_within(was: &[u8], is: &[u8], from: usize, to: usize) -> bool {
 impl Run {
     /// Adds, of which some are refused, with a finish at the end or anywhere, and now and then another.
     pub fn random(g: &mut Rng) -> Self {
-        let bits = blocks::size(g);
+        let bits = block_cases::size(g);
         let spare = g.below(4) as usize;
         let bytes = cases::bytes(g, bits.div_ceil(8) + spare);
         let adds = if g.once_in(4) { g.below(20) } else { g.below(6) };

@@ -1,5 +1,5 @@
 //! Blocks in turn: every length field in a block of every size, and every content at the start of a block of every size.
-use crate::block::Add;
+use crate::their_block::Add;
 use crate::case::{Call, Case};
 use crate::model;
 use crate::ours::Window;

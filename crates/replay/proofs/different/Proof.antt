@@ -4,10 +4,10 @@ use Rattle.replay.proofs.different.Statement.{statement}
 use Rattle.replay.proofs.different.Tie as tie
 
 abbrev Inv-loop : tie.InvT-loop
-Inv-loop counts sum₀ call₀ sum call = call ≤ 48
+Inv-loop counts sum₀ call₀ sum call = call ≤ 128
 
 abbrev μ-loop : tie.MeasureT-loop
-μ-loop counts sum₀ call₀ sum call = 48 - call
+μ-loop counts sum₀ call₀ sum call = 128 - call
 
 pub different-spec : {M : Type 1} → statement M
 different-spec =

@@ -4,10 +4,10 @@ use Rattle.replay.proofs.differing_byte.Statement.{statement}
 use Rattle.replay.proofs.differing_byte.Tie as tie
 
 abbrev Inv-loop : tie.InvT-loop
-Inv-loop a b i₀ i = i ≤ 32
+Inv-loop a b i₀ i = i ≤ 128
 
 abbrev μ-loop : tie.MeasureT-loop
-μ-loop a b i₀ i = 32 - i
+μ-loop a b i₀ i = 128 - i
 
 pub differing-byte-spec : {M : Type 1} → statement M
 differing-byte-spec =

@@ -4,10 +4,10 @@ use Rattle.replay.proofs.rows.Statement.{statement}
 use Rattle.replay.proofs.rows.Tie as tie
 
 abbrev Inv-loop : tie.InvT-loop
-Inv-loop counts call₀ call = call ≤ 48
+Inv-loop counts call₀ call = call ≤ 128
 
 abbrev μ-loop : tie.MeasureT-loop
-μ-loop counts call₀ call = 48 - call
+μ-loop counts call₀ call = 128 - call
 
 pub rows-spec : {M : Type 1} → statement M
 rows-spec =

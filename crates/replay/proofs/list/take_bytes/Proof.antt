@@ -4,10 +4,10 @@ use Rattle.replay.proofs.list.take_bytes.Statement.{statement}
 use Rattle.replay.proofs.list.take_bytes.Tie as tie
 
 abbrev Inv-loop : tie.InvT-loop
-Inv-loop s at n into₀ i₀ into i = i ≤ 32
+Inv-loop s at n into₀ i₀ into i = i ≤ 128
 
 abbrev μ-loop : tie.MeasureT-loop
-μ-loop s at n into₀ i₀ into i = 32 - i
+μ-loop s at n into₀ i₀ into i = 128 - i
 
 pub take-bytes-spec : {M : Type 1} → statement M
 take-bytes-spec =

@@ -4,10 +4,10 @@ use Rattle.replay.proofs.list.take_words.Statement.{statement}
 use Rattle.replay.proofs.list.take_words.Tie as tie
 
 abbrev Inv-loop : tie.InvT-loop
-Inv-loop s at into₀ count next₀ i₀ into next i = i ≤ 32
+Inv-loop s at into₀ count next₀ i₀ into next i = i ≤ 40
 
 abbrev μ-loop : tie.MeasureT-loop
-μ-loop s at into₀ count next₀ i₀ into next i = 32 - i
+μ-loop s at into₀ count next₀ i₀ into next i = 40 - i
 
 pub take-words-spec : {M : Type 1} → statement M
 take-words-spec =
