@@ -126,7 +126,7 @@ pub enum ChanAllocLen {
     Refused(u8),
 }
 
-// The timeslots of a number of 4 bits.
+// The timeslots of a field's bits, the low 4 of v.
 pub fn timeslots_from_raw(v: u64) -> TimeslotsAssigned
     ensures { λ r. ⌜ r ≡ timeslotsOf v ⌝ }
 {

@@ -32,9 +32,9 @@ pub const BAD_WINDOW: u8 = 13;
 pub const DELAY_COUNT: u8 = 14;
 
 // Why a read is refused, and the first bit of the refused field, counted from the header's start.
-// A refused write or length has only a number. The order of fields here, in ChanAllocElement, MacResource and ResourcePdu is chosen so that
-// the parts of an answer's cases lie on each other whole: then the compiler keeps answers in registers. For the same reason a part of a
-// MAC-RESOURCE is no enum, but a struct with a refusal beside its value, of number 0 where nothing is refused.
+// A refused write or length has only a number. The order of fields here, in MacResource and ResourcePdu is chosen so that the parts of an
+// answer's cases lie on each other whole: then the compiler keeps answers in registers. For the same reason a part of a header is no enum,
+// but a struct with a refusal beside its value, of number 0 where nothing is refused.
 pub struct Refusal {
     pub offset: usize,
     pub number: u8,

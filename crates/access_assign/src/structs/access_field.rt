@@ -15,7 +15,7 @@ pub struct AccessField {
     pub base_frame_len: BaseFrameLength,
 }
 
-// The access field of a number of 6 bits.
+// The access field of a field's bits, the low 6 of v. The Rust's try_from takes them too, and never fails.
 pub fn from_raw(v: u64) -> AccessField
     ensures { λ r. ⌜ r ≡ accessFieldOf v ⌝ }
 {
