@@ -2,39 +2,39 @@
 // behind the end gives 0, and a place that is too far stays too far, so that a list that was cut off is seen where its record should end.
 const FAR: usize = 1099511627776;
 
-pub const UNTOUCHED: u64 = 6148914691236517205;
+pub(crate) const UNTOUCHED: u64 = 6148914691236517205;
 
-pub struct Number {
-    pub value: u64,
-    pub next: usize,
+pub(crate) struct Number {
+    pub(crate) value: u64,
+    pub(crate) next: usize,
 }
 
-pub struct Words {
-    pub count: usize,
-    pub next: usize,
+pub(crate) struct Words {
+    pub(crate) count: usize,
+    pub(crate) next: usize,
 }
 
 // A record as far as the call's numbers: the call, what the original did, where its bytes and numbers stand, and the window. A record
 // stands for as many windows as ends says: from end on, one bit longer each.
-pub struct Record {
-    pub call: u64,
-    pub class: u64,
-    pub bytes: usize,
-    pub len: usize,
-    pub start: usize,
-    pub pos: usize,
-    pub end: usize,
-    pub ends: usize,
-    pub numbers: usize,
+pub(crate) struct Record {
+    pub(crate) call: u64,
+    pub(crate) class: u64,
+    pub(crate) bytes: usize,
+    pub(crate) len: usize,
+    pub(crate) start: usize,
+    pub(crate) pos: usize,
+    pub(crate) end: usize,
+    pub(crate) ends: usize,
+    pub(crate) numbers: usize,
 }
 
 // Bytes before any is taken.
-pub fn no_bytes() -> [u8; 128] {
+pub(crate) fn no_bytes() -> [u8; 128] {
     [0u8; 128]
 }
 
 // Words that no call wrote.
-pub fn untouched() -> [u64; 40] {
+pub(crate) fn untouched() -> [u64; 40] {
     [UNTOUCHED; 40]
 }
 
@@ -43,7 +43,7 @@ fn octet(s: &[u8], at: usize) -> u8 {
 }
 
 // The place n bytes on.
-pub fn ahead(at: usize, n: u64) -> usize {
+pub(crate) fn ahead(at: usize, n: u64) -> usize {
     if FAR < at {
         return FAR;
     }
@@ -66,7 +66,7 @@ fn long(s: &[u8], at: usize, n: u64) -> u64 {
     v
 }
 
-pub fn take(s: &[u8], at: usize) -> Number {
+pub(crate) fn take(s: &[u8], at: usize) -> Number {
     let b = bits::word::widen(octet(s, at));
     let next = ahead(at, 1);
     if b < 248 {
@@ -80,7 +80,7 @@ pub fn take(s: &[u8], at: usize) -> Number {
 }
 
 // A count and that many numbers, 40 at most.
-pub fn take_words(s: &[u8], at: usize, into: &mut [u64; 40]) -> Words {
+pub(crate) fn take_words(s: &[u8], at: usize, into: &mut [u64; 40]) -> Words {
     let c = take(s, at);
     let count = c.value;
     if 40 < count {
@@ -104,7 +104,7 @@ pub fn take_words(s: &[u8], at: usize, into: &mut [u64; 40]) -> Words {
 }
 
 // Of pairs, each the count of those that it stands for and what holds for them, what holds for number i.
-pub fn run_of(pairs: &[u64; 40], i: u64) -> u64 {
+pub(crate) fn run_of(pairs: &[u64; 40], i: u64) -> u64 {
     let mut left = i;
     let mut k: usize = 0;
     while k < 39 {
@@ -118,7 +118,7 @@ pub fn run_of(pairs: &[u64; 40], i: u64) -> u64 {
 }
 
 // n bytes, 128 at most.
-pub fn take_bytes(s: &[u8], at: usize, n: usize, into: &mut [u8; 128]) {
+pub(crate) fn take_bytes(s: &[u8], at: usize, n: usize, into: &mut [u8; 128]) {
     let mut i: usize = 0;
     while i < 128 {
         if n <= i {
@@ -129,7 +129,7 @@ pub fn take_bytes(s: &[u8], at: usize, n: usize, into: &mut [u8; 128]) {
     }
 }
 
-pub fn take_record(s: &[u8], at: usize) -> Record {
+pub(crate) fn take_record(s: &[u8], at: usize) -> Record {
     let call = take(s, at);
     let class = take(s, call.next);
     let len = take(s, class.next);

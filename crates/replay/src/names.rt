@@ -1,11 +1,11 @@
 // What is written: texts, numbers and the names of the calls.
 use libc::STDOUT_FILENO;
 
-pub fn text(t: &[u8]) {
+pub(crate) fn text(t: &[u8]) {
     io::write_all(STDOUT_FILENO, t);
 }
 
-pub fn digits(n: u64) {
+pub(crate) fn digits(n: u64) {
     text(b" ");
     io::print_decimal(STDOUT_FILENO, n);
 }
@@ -142,7 +142,7 @@ fn later(call: u64) {
     last_call(call)
 }
 
-pub fn name(call: u64) {
+pub(crate) fn name(call: u64) {
     if call < 16 {
         text(b"read");
         return kind(call);
@@ -157,7 +157,7 @@ pub fn name(call: u64) {
     later(call)
 }
 
-pub fn call_known(call: u64) -> bool {
+pub(crate) fn call_known(call: u64) -> bool {
     match call {
         0..=5 => true,
         16..=21 => true,

@@ -34,7 +34,7 @@ fn uplink(a: UplinkAddress, out: &mut [u64; 40]) -> u64 {
     }
 }
 
-pub fn call(call: u64, n: Given, out: &mut [u64; 40]) -> u64 {
+pub(crate) fn call(call: u64, n: Given, out: &mut [u64; 40]) -> u64 {
     let ssi = ssi_of(n.a);
     match call {
         91 => downlink(address::new(ssi, kind_of(n.b)), out),

@@ -45,7 +45,7 @@ fn moves(call: u64, s: &[u8], c: Cursor, a: u64, out: &mut [u64; 40]) -> u64 {
     }
 }
 
-pub fn call(call: u64, s: &[u8], c: Cursor, n: Given, out: &mut [u64; 40]) -> u64 {
+pub(crate) fn call(call: u64, s: &[u8], c: Cursor, n: Given, out: &mut [u64; 40]) -> u64 {
     if call < 51 {
         return reads(call, s, c, n, out);
     }

@@ -20,7 +20,7 @@ fn split(given: &[u8], s: &mut [u8], c: Cursor, words: &[u64], out: &mut [u64; 4
     add(&given[..k], &mut s[k..], c, words, out)
 }
 
-pub fn call(
+pub(crate) fn call(
     call: u64,
     given: &[u8],
     s: &mut [u8],

@@ -203,7 +203,7 @@ fn last_codes(call: u64, v: u64, out: &mut [u64; 40]) -> u64 {
     }
 }
 
-pub fn call(call: u64, n: Given, out: &mut [u64; 40]) -> u64 {
+pub(crate) fn call(call: u64, n: Given, out: &mut [u64; 40]) -> u64 {
     if call < 83 {
         return grant_codes(call, n.a, out);
     }

@@ -81,7 +81,7 @@ fn length(call: u64, words: &[u64], out: &mut [u64; 40]) -> u64 {
     }
 }
 
-pub fn call(call: u64, s: &mut [u8], c: Cursor, words: &[u64], out: &mut [u64; 40]) -> u64 {
+pub(crate) fn call(call: u64, s: &mut [u8], c: Cursor, words: &[u64], out: &mut [u64; 40]) -> u64 {
     if call < 16 {
         return read(call, s, c.start, c.pos, c.end, out);
     }

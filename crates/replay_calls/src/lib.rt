@@ -1,14 +1,14 @@
 // The calls that the list of recorded answers has numbers for, over the proved library. Each answers a status, 0 or a refusal's number, and puts
 // the words of its answer into out.
-pub mod addresses;
+mod addresses;
 pub mod answers;
-pub mod bit_calls;
-pub mod block_calls;
-pub mod codes;
-pub mod header_calls;
-pub mod split_calls;
-pub mod usages;
-pub mod write_calls;
+mod bit_calls;
+mod block_calls;
+mod codes;
+mod header_calls;
+mod split_calls;
+mod usages;
+mod write_calls;
 
 use answers::Given;
 use tetra_core::bitbuffer::Cursor;

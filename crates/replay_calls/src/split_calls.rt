@@ -33,7 +33,7 @@ fn both(call: u64, from: &[u8], to: &mut [u8], c: Cursor, n: Given, out: &mut [u
     }
 }
 
-pub fn call(
+pub(crate) fn call(
     call: u64,
     given: &[u8],
     s: &mut [u8],

@@ -215,7 +215,7 @@ fn constants(call: u64, out: &mut [u64; 40]) -> u64 {
     )
 }
 
-pub fn call(call: u64, n: Given, out: &mut [u64; 40]) -> u64 {
+pub(crate) fn call(call: u64, n: Given, out: &mut [u64; 40]) -> u64 {
     if call < 100 {
         return downlink(call, n, out);
     }

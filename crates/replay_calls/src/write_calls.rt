@@ -4,7 +4,7 @@ use crate::answers::Given;
 use tetra_core::bitbuffer;
 use tetra_core::bitbuffer::Cursor;
 
-pub fn call(call: u64, s: &mut [u8], c: Cursor, n: Given, out: &mut [u64; 40]) -> u64 {
+pub(crate) fn call(call: u64, s: &mut [u8], c: Cursor, n: Given, out: &mut [u64; 40]) -> u64 {
     let count = n.a as usize;
     match call {
         68 => answers::moved(out, bitbuffer::write_bit(s, c, answers::octet(n.a))),
