@@ -1,5 +1,5 @@
-//! The calls of the bit buffer, and the helpers that have no C call, held against the original at scale: lists of recorded answers are made part by part and given to the program
-//! of crates/replay, whose last line must be `.. 0 differences`.
+//! The calls of the bit buffer, and the helpers that have no C call, held against the original at scale: lists of recorded answers are made part
+//! by part and given to the program of crates/replay, whose last line must be `.. 0 differences`.
 use crate::bit_calls::{self, BitCase, Did, Must};
 use crate::bit_cases;
 use crate::cases::Rng;
@@ -10,7 +10,7 @@ use std::collections::BTreeMap;
 use std::io::{Read, Write};
 use std::process::{Command, Stdio};
 
-/// The bytes of a part, which the program's room has to hold.
+/// The bytes of a part.
 const PART: usize = 1_000_000;
 
 struct Live<'a> {
