@@ -4,6 +4,7 @@ use crate::bit_calls::{self, BitCase, Did, Must};
 use crate::bit_cases;
 use crate::cases::Rng;
 use crate::helpers;
+use crate::lent_cursor;
 use crate::original_only;
 use crate::record::List;
 use std::collections::BTreeMap;
@@ -131,9 +132,10 @@ pub fn run(replay: &str, random: u64, seed: u64) -> bool {
     for ((entry, _), (c, did)) in &live.smallest {
         println!("{entry}: {}: the original {did}", c.show());
     }
+    let lent = lent_cursor::agrees(replay);
     let tried = original_only::all();
     for (entry, what, is) in &tried {
         println!("{entry}: {what}{}", if *is { "" } else { ": NOT SO" });
     }
-    live.wrong == 0 && tried.iter().all(|(_, _, is)| *is)
+    live.wrong == 0 && lent && tried.iter().all(|(_, _, is)| *is)
 }

@@ -5,6 +5,7 @@ mod block_cases;
 mod cases;
 mod helpers;
 mod kind;
+mod lent_cursor;
 mod live;
 // where an added PDU ends is asked by the judge alone
 #[allow(dead_code)]
