@@ -15,7 +15,6 @@ use Rattle.text.specs.Laws.Puts.{then, wider, reads, put-nothing, at-start, sta
 use Rattle.mac_block.specs.declared.reader.BlockEntry.{BlockEntry}
 use Rattle.mac_block.specs.declared.reader.StepAnswer.{StepAnswer}
 use Rattle.mac_block.proofs.reader.StepAnswer.{the-type}
-use Rattle.block_rules.specs.Numbers.{leastBits}
 use Rattle.block_rules.specs.Walk.{goodBlock, step, follow, walkBy, walkFrom, walk}
 use Rattle.block_rules.specs.Downlink.{downlinkReader}
 use Rattle.block_rules.specs.Laws.Blocks.{held}

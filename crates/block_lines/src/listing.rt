@@ -2,7 +2,6 @@
 use crate::line;
 use block_walk::Position;
 use mac_block::reader::StepAnswer;
-ghost use mathlib.Core.Path.{_≡_};
 ghost use lib.ListN.{length};
 ghost use Rattle.io.specs.Counts.{Counts};
 ghost use Rattle.text.specs.Put.{Put, AtStart};

@@ -1,13 +1,13 @@
 -- Text behind text is one text; text that has room is there.
 use mathlib.Core.Path.{_≡_, refl, sym, ap, _∙_}
 use mathlib.Core.List.{List, [], _∷_, _++_}
-use Prim.Native.Nat.{ℕ, zero, suc, _+_, _-_, _≤_, _<_, min}
+use Prim.Native.Nat.{ℕ, zero, suc, _+_, _-_, _≤_, _<_}
 use native.Mathlib.Decide.{decLe}
 use native.Mathlib.Nat.{zero-add}
 use native.Mathlib.Omega.{arith}
 use native.Mathlib.Numerals.{add-one}
 use lib.ListN.{length, set, take, drop, getD, length-append, length-set}
-use lib.Seq.{sets, sets-eq, length-sets, set-out, take-at, take-suc, take-all}
+use lib.Seq.{sets, sets-eq, length-sets, set-out, take-suc, take-all}
 use Rattle.text.specs.Put.{put, Put, AtStart}
 
 put-sets : (d : List ℕ) (at : ℕ) (xs : List ℕ) → put d at xs ≡ sets d at xs
