@@ -1,5 +1,7 @@
 // The downlink block's rules: its definitions, their laws and demand 3 stand in specs. Here are the types and the numbers that these share
 // with the code; there is no function.
+#![tactic(auto)]
+
 pub mod extent;
 pub mod to_add;
 

@@ -1,4 +1,6 @@
 // A walk over a lent block. The work is `step_from` and `rest_from`, which take plain parameters; the functions over the struct are thin.
+#![tactic(auto)]
+
 ghost use Rattle.std.specs.Prelude.{◌≡◌, ◌-◌};
 ghost use Rattle.block_walk.specs.Positions.{NullFits, after_end, after_entry, step_from, rest_from, begun, moved};
 

@@ -1,4 +1,6 @@
 // What every header codec is made of: several fields by one read, several fields by one write, and the decisions that all calls share.
+#![tactic(auto)]
+
 pub mod encoded;
 pub mod piece;
 

@@ -1,5 +1,7 @@
 // The field calls on a lent cursor, over the calls of bitbuffer.rt by value: "the cursor moves on by the bits of the field".
 // Each is the call, a store and the answer, with no branch: what is refused, and where the cursor then stands, is said there alone.
+#![tactic(auto)]
+
 ghost use Rattle.std.specs.Prelude.{◌≡◌};
 ghost use Rattle.tetra_core.specs.BitBuffer.{read_bits, peek_at, write_bits, written, copy_bits, copied};
 

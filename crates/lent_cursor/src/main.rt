@@ -1,5 +1,7 @@
 // Pairs of fields read on one cursor: what each answers, and the cursor after both, a line a pair, held to the file stdout. It is a caller of
 // crates/field_calls, whose functions take the cursor lent.
+#![tactic(auto)]
+
 mod two;
 
 use libc::STDOUT_FILENO;

@@ -1,4 +1,6 @@
 // Lists the block of each file that an argument names, then writes blocks of 488 and 489 bits. Held to the file stdout.
+#![tactic(auto)]
+
 use bits::word;
 use block_lines::file::MOST_BYTES;
 use block_lines::listing::MOST_TEXT;

@@ -1,5 +1,7 @@
 // Replays the answers of the original that the list, standard input, has over the proved library. It prints how many calls of each kind
 // answered alike, and each that did not.
+#![tactic(auto)]
+
 mod list;
 mod names;
 

@@ -1,5 +1,7 @@
 // The calls that the list of recorded answers has numbers for, over the proved library. Each answers a status, 0 or a refusal's number, and puts
 // the words of its answer into out.
+#![tactic(auto)]
+
 mod addresses;
 pub mod answers;
 mod bit_calls;

@@ -2,6 +2,8 @@
 // PDU), first bit; whether it has an end, the bit after it; content start, content end; refusal number, refused field's bit from the PDU's
 // first bit; and the header's record of 25 words. What there is not is 0. A library of its own, as tetra_resource is:
 // docs/DECISIONS.md, Crates, has the reason.
+#![tactic(auto)]
+
 ghost use Rattle.std.specs.Prelude.{◌++◌, ◌≡◌, ◌≤◌, length};
 ghost use Rattle.tetra_mac.specs.Reply.{replied, wrote, put_first, moved_reply};
 ghost use Rattle.tetra_block.specs.Block.{no_header, has_end, end_bit, resource_words, refused_words, entry_words, length_known, length_value, add_known, writer_moved, block_step_reply, block_add_reply, block_finish_reply};
@@ -100,8 +102,7 @@ fn put_entry(out: &mut [u64], e: BlockEntry)
 }
 
 // What stands at a bit of a block of so many bits.
-#[unsafe(no_mangle)]
-pub extern "C" fn tetra_block_step(block: &[u8], bits: usize, bit: usize, out: &mut [u64]) -> u64
+pub fn tetra_block_step(block: &[u8], bits: usize, bit: usize, out: &mut [u64]) -> u64
     ensures { replied result out.new ≡ block_step_reply block.now bits bit out.old }
 {
     if out.len() < ENTRY_WORDS {
@@ -168,8 +169,7 @@ fn writer_moved(out: &mut [u64], bits: usize, done: Written) -> u64
 }
 
 // Adds a PDU behind those that were added.
-#[unsafe(no_mangle)]
-pub extern "C" fn tetra_block_add(
+pub fn tetra_block_add(
     block: &mut [u8],
     bits: usize,
     bit: usize,
@@ -194,13 +194,7 @@ pub extern "C" fn tetra_block_add(
 }
 
 // Closes the block behind the PDUs that were added.
-#[unsafe(no_mangle)]
-pub extern "C" fn tetra_block_finish(
-    block: &mut [u8],
-    bits: usize,
-    bit: usize,
-    out: &mut [u64],
-) -> u64
+pub fn tetra_block_finish(block: &mut [u8], bits: usize, bit: usize, out: &mut [u64]) -> u64
     ensures { wrote result out.new block.new ≡ block_finish_reply block.old bits bit out.old }
 {
     if out.len() < 1 {

@@ -1,4 +1,6 @@
 // What every layer above stands on: bits of lent bytes through a window, refusals, quantities and addresses.
+#![tactic(auto)]
+
 pub mod address;
 pub mod bitarr;
 pub mod bitbuffer;

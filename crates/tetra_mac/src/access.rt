@@ -131,14 +131,7 @@ pub(crate) fn mac_access_value(words: &[u64]) -> MacAccess
     }
 }
 
-#[unsafe(no_mangle)]
-pub extern "C" fn tetra_mac_access_read(
-    s: &[u8],
-    start: usize,
-    pos: usize,
-    end: usize,
-    out: &mut [u64],
-) -> u64
+pub fn tetra_mac_access_read(s: &[u8], start: usize, pos: usize, end: usize, out: &mut [u64]) -> u64
     ensures { replied result out.new ≡ mac_access_read_reply s.now (window start pos end) out.old }
 {
     if out.len() < READ_WORDS {
@@ -156,8 +149,7 @@ pub extern "C" fn tetra_mac_access_read(
     }
 }
 
-#[unsafe(no_mangle)]
-pub extern "C" fn tetra_mac_access_write(
+pub fn tetra_mac_access_write(
     s: &mut [u8],
     start: usize,
     pos: usize,

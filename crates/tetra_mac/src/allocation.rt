@@ -113,8 +113,7 @@ pub fn channel_allocation_value(words: &[u64]) -> ChanAllocElement
     }
 }
 
-#[unsafe(no_mangle)]
-pub extern "C" fn tetra_channel_allocation_read(
+pub fn tetra_channel_allocation_read(
     s: &[u8],
     start: usize,
     pos: usize,
@@ -138,8 +137,7 @@ pub extern "C" fn tetra_channel_allocation_read(
     }
 }
 
-#[unsafe(no_mangle)]
-pub extern "C" fn tetra_channel_allocation_write(
+pub fn tetra_channel_allocation_write(
     s: &mut [u8],
     start: usize,
     pos: usize,
@@ -161,8 +159,7 @@ pub extern "C" fn tetra_channel_allocation_write(
 }
 
 // The bits that a channel allocation is written as.
-#[unsafe(no_mangle)]
-pub extern "C" fn tetra_channel_allocation_len(words: &[u64], out: &mut [u64]) -> u64
+pub fn tetra_channel_allocation_len(words: &[u64], out: &mut [u64]) -> u64
     ensures { replied result out.new ≡ channel_allocation_len_reply words.now out.old }
 {
     if out.len() < 1 {

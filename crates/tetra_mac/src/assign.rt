@@ -250,8 +250,7 @@ fn access_assign_value(words: &[u64]) -> AccessAssign
     }
 }
 
-#[unsafe(no_mangle)]
-pub extern "C" fn tetra_access_assign_read(
+pub fn tetra_access_assign_read(
     s: &[u8],
     start: usize,
     pos: usize,
@@ -275,8 +274,7 @@ pub extern "C" fn tetra_access_assign_read(
     }
 }
 
-#[unsafe(no_mangle)]
-pub extern "C" fn tetra_access_assign_write(
+pub fn tetra_access_assign_write(
     s: &mut [u8],
     start: usize,
     pos: usize,

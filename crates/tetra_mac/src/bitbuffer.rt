@@ -25,8 +25,7 @@ fn bits_reply(out: &mut [u64], done: BitsRead) -> u64
 }
 
 // Reads num_bits bits, 64 at most.
-#[unsafe(no_mangle)]
-pub extern "C" fn tetra_read_bits(
+pub fn tetra_read_bits(
     s: &[u8],
     start: usize,
     pos: usize,
@@ -44,8 +43,7 @@ pub extern "C" fn tetra_read_bits(
 }
 
 // Reads num_bits bits so many bits from the cursor, before or behind it, and leaves it.
-#[unsafe(no_mangle)]
-pub extern "C" fn tetra_peek_bits_posoffset(
+pub fn tetra_peek_bits_posoffset(
     s: &[u8],
     start: usize,
     pos: usize,
@@ -64,8 +62,7 @@ pub extern "C" fn tetra_peek_bits_posoffset(
 }
 
 // Writes value in num_bits bits, 64 at most.
-#[unsafe(no_mangle)]
-pub extern "C" fn tetra_write_bits(
+pub fn tetra_write_bits(
     s: &mut [u8],
     start: usize,
     pos: usize,

@@ -64,14 +64,7 @@ fn mac_data_known(words: &[u64]) -> bool
     words[access::OPTION] != 0
 }
 
-#[unsafe(no_mangle)]
-pub extern "C" fn tetra_mac_data_read(
-    s: &[u8],
-    start: usize,
-    pos: usize,
-    end: usize,
-    out: &mut [u64],
-) -> u64
+pub fn tetra_mac_data_read(s: &[u8], start: usize, pos: usize, end: usize, out: &mut [u64]) -> u64
     ensures { replied result out.new ≡ mac_data_read_reply s.now (window start pos end) out.old }
 {
     if out.len() < access::READ_WORDS {
@@ -89,8 +82,7 @@ pub extern "C" fn tetra_mac_data_read(
     }
 }
 
-#[unsafe(no_mangle)]
-pub extern "C" fn tetra_mac_data_write(
+pub fn tetra_mac_data_write(
     s: &mut [u8],
     start: usize,
     pos: usize,

@@ -95,14 +95,7 @@ pub fn slotgrant_value(words: &[u64]) -> BasicSlotgrant
     }
 }
 
-#[unsafe(no_mangle)]
-pub extern "C" fn tetra_slotgrant_read(
-    s: &[u8],
-    start: usize,
-    pos: usize,
-    end: usize,
-    out: &mut [u64],
-) -> u64
+pub fn tetra_slotgrant_read(s: &[u8], start: usize, pos: usize, end: usize, out: &mut [u64]) -> u64
     ensures { replied result out.new ≡ slotgrant_read_reply s.now (window start pos end) out.old }
 {
     if out.len() < READ_WORDS {
@@ -120,8 +113,7 @@ pub extern "C" fn tetra_slotgrant_read(
     }
 }
 
-#[unsafe(no_mangle)]
-pub extern "C" fn tetra_slotgrant_write(
+pub fn tetra_slotgrant_write(
     s: &mut [u8],
     start: usize,
     pos: usize,

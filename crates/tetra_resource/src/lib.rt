@@ -2,6 +2,8 @@
 // kind, first and second number; whether there is a power control, power control; whether there is a slot grant, its 3 words; whether there
 // is a channel allocation, its 9 words. What there is not is read as 0 and not looked at when written. A library apart from tetra_mac: there
 // the readers and writers of an element have a caller more, and the compiler would not put them here.
+#![tactic(auto)]
+
 ghost use Rattle.std.specs.Prelude.{◌∷◌, ◌≡◌, ◌≤◌, length};
 ghost use Rattle.std.proofs.lemmas.List.Edits.{sets};
 ghost use Rattle.mac_resource.specs.Address.{is_null};
@@ -417,8 +419,7 @@ pub fn encoded_to_add(words: &[u64]) -> EncodedHeader
     resource::whole(before, front, rest_of(words, resource::is_null_pdu(h)))
 }
 
-#[unsafe(no_mangle)]
-pub extern "C" fn tetra_mac_resource_read(
+pub fn tetra_mac_resource_read(
     s: &[u8],
     start: usize,
     pos: usize,
@@ -444,8 +445,7 @@ pub extern "C" fn tetra_mac_resource_read(
     }
 }
 
-#[unsafe(no_mangle)]
-pub extern "C" fn tetra_mac_resource_write(
+pub fn tetra_mac_resource_write(
     s: &mut [u8],
     start: usize,
     pos: usize,
@@ -468,8 +468,7 @@ pub extern "C" fn tetra_mac_resource_write(
 }
 
 // The bits that a MAC-RESOURCE is written as.
-#[unsafe(no_mangle)]
-pub extern "C" fn tetra_mac_resource_compute_header_len(words: &[u64], out: &mut [u64]) -> u64
+pub fn tetra_mac_resource_compute_header_len(words: &[u64], out: &mut [u64]) -> u64
     ensures { replied result out.new ≡ header_len_reply words.now out.old }
 {
     if out.len() < 1 {
@@ -489,12 +488,7 @@ pub extern "C" fn tetra_mac_resource_compute_header_len(words: &[u64], out: &mut
 }
 
 // The length of a MAC-RESOURCE with sdu_len bits of content, its fill flag and its fill bits.
-#[unsafe(no_mangle)]
-pub extern "C" fn tetra_mac_resource_len_and_fill(
-    words: &[u64],
-    sdu_len: usize,
-    out: &mut [u64],
-) -> u64
+pub fn tetra_mac_resource_len_and_fill(words: &[u64], sdu_len: usize, out: &mut [u64]) -> u64
     ensures { replied result out.new ≡ update_len_reply words.now sdu_len out.old }
 {
     if out.len() < 3 {

@@ -1,5 +1,7 @@
 // Text, put into lent bytes from a place on. Each call answers the place behind its text, so that the next one goes on there. Where the bytes
 // end, the text is cut off, so that no call asks for room.
+#![tactic(auto)]
+
 ghost use Rattle.std.specs.Prelude.{[], ◌∷◌, ◌+◌, length};
 ghost use Rattle.text.specs.Put.{Put};
 ghost use Rattle.text.specs.Ascii.{space};
