@@ -31,7 +31,7 @@ const HEADER: u64 = 1 << 12;
 // The same of field one; field two is worth 1.
 const FIELD_ONE: u64 = 1 << 6;
 
-#[derive(Drop)]
+#[derive(Clone, Copy)]
 pub enum AccessAssign {
     // Header 0: downlink usage common control, uplink access rights common only
     DownlinkCommonControlUplinkCommonOnly {
@@ -56,21 +56,21 @@ pub enum AccessAssign {
 }
 
 // An ACCESS-ASSIGN, or why there is none.
-#[derive(Drop)]
+#[derive(Clone, Copy)]
 pub enum AccessAssignAnswer {
     Read(AccessAssign),
     Refused(Refusal),
 }
 
 // What a read answers, and the cursor after it.
-#[derive(Drop)]
+#[derive(Clone, Copy)]
 pub struct AccessAssignRead {
     pub cursor: Cursor,
     pub answer: AccessAssignAnswer,
 }
 
 // An ACCESS-ASSIGN as a part of a header: why it is not read, or number 0.
-#[derive(Drop)]
+#[derive(Clone, Copy)]
 pub struct AccessAssignPart {
     pub refusal: Refusal,
     pub assign: AccessAssign,

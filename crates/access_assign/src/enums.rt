@@ -9,7 +9,7 @@ pub mod access_assign_ul_usage;
 pub mod access_code;
 
 // The traffic channel of a usage, or none.
-#[derive(Drop)]
+#[derive(Clone, Copy)]
 pub enum TrafficChannel {
     Channel(u8),
     Nothing,

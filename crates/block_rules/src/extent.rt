@@ -1,7 +1,7 @@
 // Where a PDU ends.
 
 // What begins at a bit of a block.
-#[derive(Drop)]
+#[derive(Clone, Copy)]
 pub enum Extent {
     // Nothing: fewer than 16 bits are left.
     End,

@@ -2,7 +2,7 @@
 use mac_resource::mac_resource::MacResource;
 
 // The length that a MAC-RESOURCE is written with: its octets, or a mark that it takes the rest of the block.
-#[derive(Drop)]
+#[derive(Clone, Copy)]
 pub enum LengthIndication {
     Counted,
     SecondSlotStolen,
@@ -10,7 +10,7 @@ pub enum LengthIndication {
 }
 
 // A MAC-RESOURCE to be added. The length and the fill flag of its header are not looked at.
-#[derive(Drop)]
+#[derive(Clone, Copy)]
 pub struct ResourceToAdd {
     pub header: MacResource,
     pub indication: LengthIndication,

@@ -9,7 +9,7 @@ use mac_block::reader;
 use mac_block::reader::{BlockEntry, PduEnd, RefusedPdu, StepAnswer};
 
 // Where a walk is. A bit alone would not say it: behind a null PDU the walk has ended, and bits that look like another PDU may follow.
-#[derive(Drop)]
+#[derive(Clone, Copy)]
 pub enum Position {
     // It goes on from this bit.
     At(usize),
@@ -18,7 +18,7 @@ pub enum Position {
 }
 
 // What a step of a walk answers, and the position after it.
-#[derive(Drop)]
+#[derive(Clone, Copy)]
 pub struct WalkStep {
     pub position: Position,
     pub answer: StepAnswer,
@@ -105,7 +105,7 @@ pub fn rest_from(block: &[u8], bits: usize, position: Position) -> usize
 }
 
 // A walk keeps the lent block, its bit count, and where it is.
-#[derive(Drop)]
+#[derive(Clone, Copy)]
 pub struct Walk<'a> {
     block: &'a [u8],
     bits: usize,

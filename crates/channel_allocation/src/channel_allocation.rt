@@ -52,7 +52,7 @@ const SLOT_2: u64 = 1 << 2;
 const SLOT_3: u64 = 1 << 1;
 
 // The timeslots assigned, slot 1 first.
-#[derive(Drop)]
+#[derive(Clone, Copy)]
 pub struct TimeslotsAssigned {
     pub ts1: bool,
     pub ts2: bool,
@@ -61,14 +61,14 @@ pub struct TimeslotsAssigned {
 }
 
 // The frame-18 pattern, which stands only beside monitoring pattern 0.
-#[derive(Drop)]
+#[derive(Clone, Copy)]
 pub enum Frame18Pattern {
     Without,
     Pattern(u8),
 }
 
 // Each field with its bits.
-#[derive(Drop)]
+#[derive(Clone, Copy)]
 pub struct ChanAllocElement {
     // 2
     pub alloc_type: ChanAllocType,
@@ -89,21 +89,21 @@ pub struct ChanAllocElement {
 }
 
 // A channel allocation, or why there is none.
-#[derive(Drop)]
+#[derive(Clone, Copy)]
 pub enum ChannelAllocationAnswer {
     Read(ChanAllocElement),
     Refused(Refusal),
 }
 
 // What a read answers, and the cursor after it.
-#[derive(Drop)]
+#[derive(Clone, Copy)]
 pub struct ChannelAllocationRead {
     pub cursor: Cursor,
     pub answer: ChannelAllocationAnswer,
 }
 
 // A channel allocation as a part of a header: why it is not read, or number 0; and what is ahead after it.
-#[derive(Drop)]
+#[derive(Clone, Copy)]
 pub struct ChannelAllocationPart {
     pub refusal: Refusal,
     pub element: ChanAllocElement,
@@ -111,13 +111,13 @@ pub struct ChannelAllocationPart {
 }
 
 // The monitoring patterns as a part of a channel allocation.
-#[derive(Drop)]
+#[derive(Clone, Copy)]
 struct MonPatterns {
     pub mon_pattern: u8,
     pub frame18_mon_pattern: Frame18Pattern,
 }
 
-#[derive(Drop)]
+#[derive(Clone, Copy)]
 struct MonPatternsPart {
     refusal: Refusal,
     patterns: MonPatterns,
@@ -125,7 +125,7 @@ struct MonPatternsPart {
 }
 
 // The bits that a channel allocation takes up, or the number of the refusal.
-#[derive(Drop)]
+#[derive(Clone, Copy)]
 pub enum ChanAllocLen {
     Len(Bits),
     Refused(u8),

@@ -11,21 +11,21 @@ use tetra_core::bitbuffer;
 use tetra_core::bitbuffer::{Cursor, Moved};
 
 // What one piece holds: why it is not written, or 0, and its bits. Of what is refused only the size is looked at.
-#[derive(Drop)]
+#[derive(Clone, Copy)]
 pub struct Encoded {
     pub number: u8,
     pub piece: Piece,
 }
 
 // Where the front of a header has its length and its fill flag: the offset behind each.
-#[derive(Drop)]
+#[derive(Clone, Copy)]
 pub struct Places {
     pub length: usize,
     pub fill: usize,
 }
 
 // What does not fit into the rest.
-#[derive(Drop)]
+#[derive(Clone, Copy)]
 pub struct Tail {
     pub first: Piece,
     pub second: Piece,
@@ -33,7 +33,7 @@ pub struct Tail {
 
 // A header, with 0 in the places of its length and its fill flag, which are set when it is written, alone or into a block: what stands in front
 // and has the places, the rest, and a tail.
-#[derive(Drop)]
+#[derive(Clone, Copy)]
 pub struct EncodedHeader {
     pub number: u8,
     pub front: Piece,

@@ -20,7 +20,7 @@ use tetra_core::{bitbuffer, refusal};
 
 // The bits of a header from the offset at on: so many are left, and the first of them stand in a word, behind its used highest bits. Parts
 // that take no more than what is there are read from this number, and no byte is loaded twice.
-#[derive(Drop)]
+#[derive(Clone, Copy)]
 pub struct Ahead {
     pub at: usize,
     pub left: usize,

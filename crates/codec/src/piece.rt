@@ -8,7 +8,7 @@ ghost use Rattle.codec.specs.Piece.{piece_bits, Holds, Puttable};
 use bits::word;
 
 // The low `bits` bits of `value`, the highest of them first; value < 2^bits.
-#[derive(Drop)]
+#[derive(Clone, Copy)]
 pub struct Piece {
     pub value: u64,
     pub bits: usize,

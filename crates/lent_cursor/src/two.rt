@@ -5,7 +5,7 @@ ghost use Rattle.lent_cursor.specs.Two.{two_of};
 use tetra_core::bitbuffer::{BitsAnswer, Cursor};
 
 // Two fields in a row, and the cursor after them.
-#[derive(Drop)]
+#[derive(Clone, Copy)]
 pub(crate) struct Two {
     pub(crate) first: BitsAnswer,
     pub(crate) second: BitsAnswer,

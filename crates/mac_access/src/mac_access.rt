@@ -42,7 +42,7 @@ const SELECTOR: u64 = 1 << 5;
 const FRAGMENT: u64 = 1 << 4;
 
 // What follows the option flag.
-#[derive(Drop)]
+#[derive(Clone, Copy)]
 pub enum MacAccessOption {
     // The flag is not set.
     Without,
@@ -52,7 +52,7 @@ pub enum MacAccessOption {
     CapacityRequest(bool, ReservationRequirement),
 }
 
-#[derive(Drop)]
+#[derive(Clone, Copy)]
 pub struct MacAccess {
     pub fill_bits: bool,
     pub encrypted: bool,
@@ -61,21 +61,21 @@ pub struct MacAccess {
 }
 
 // A MAC-ACCESS, or why there is none.
-#[derive(Drop)]
+#[derive(Clone, Copy)]
 pub enum MacAccessAnswer {
     Read(MacAccess),
     Refused(Refusal),
 }
 
 // What a read answers, and the cursor after it.
-#[derive(Drop)]
+#[derive(Clone, Copy)]
 pub struct MacAccessRead {
     pub cursor: Cursor,
     pub answer: MacAccessAnswer,
 }
 
 // A MAC-ACCESS: why it is not read, or number 0; and the offset after it.
-#[derive(Drop)]
+#[derive(Clone, Copy)]
 pub struct MacAccessPart {
     pub refusal: Refusal,
     pub header: MacAccess,
@@ -83,7 +83,7 @@ pub struct MacAccessPart {
 }
 
 // The same of what follows the address.
-#[derive(Drop)]
+#[derive(Clone, Copy)]
 pub struct OptionPart {
     pub refusal: Refusal,
     pub option: MacAccessOption,

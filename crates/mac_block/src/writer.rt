@@ -23,7 +23,7 @@ use tetra_core::quantity::{OctetCount, Octets};
 use tetra_core::{quantity, refusal};
 
 // The writer's bit after a call, and whether the call was done.
-#[derive(Drop)]
+#[derive(Clone, Copy)]
 pub struct Written {
     pub bit: usize,
     pub answer: Outcome,

@@ -36,7 +36,7 @@ const FRAGMENT: u64 = 1 << 5;
 const RESERVATION: u64 = 1 << 1;
 
 // What follows the address.
-#[derive(Drop)]
+#[derive(Clone, Copy)]
 pub enum MacDataOption {
     // 6 bits
     LengthInd(u8),
@@ -44,7 +44,7 @@ pub enum MacDataOption {
     CapacityRequest(bool, ReservationRequirement),
 }
 
-#[derive(Drop)]
+#[derive(Clone, Copy)]
 pub struct MacData {
     pub fill_bits: bool,
     pub encrypted: bool,
@@ -53,21 +53,21 @@ pub struct MacData {
 }
 
 // A MAC-DATA, or why there is none.
-#[derive(Drop)]
+#[derive(Clone, Copy)]
 pub enum MacDataAnswer {
     Read(MacData),
     Refused(Refusal),
 }
 
 // What a read answers, and the cursor after it.
-#[derive(Drop)]
+#[derive(Clone, Copy)]
 pub struct MacDataRead {
     pub cursor: Cursor,
     pub answer: MacDataAnswer,
 }
 
 // A MAC-DATA: why it is not read, or number 0; and the offset after it.
-#[derive(Drop)]
+#[derive(Clone, Copy)]
 pub struct MacDataPart {
     pub refusal: Refusal,
     pub header: MacData,
@@ -75,7 +75,7 @@ pub struct MacDataPart {
 }
 
 // The same of what follows the address.
-#[derive(Drop)]
+#[derive(Clone, Copy)]
 pub struct OptionPart {
     pub refusal: Refusal,
     pub option: MacDataOption,

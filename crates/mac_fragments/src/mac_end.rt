@@ -45,7 +45,7 @@ const FIRST_MARK: u8 = 62;
 const SECOND_MARK: u8 = 63;
 
 // Each field with its bits, in the standard's order; the same fields stand first in a MacResource, for the reason that Refusal gives.
-#[derive(Drop)]
+#[derive(Clone, Copy)]
 pub struct MacEnd {
     // 1, whether fill bits follow the content
     pub fill_bits: bool,
@@ -60,21 +60,21 @@ pub struct MacEnd {
 }
 
 // A MAC-END, or why there is none.
-#[derive(Drop)]
+#[derive(Clone, Copy)]
 pub enum MacEndAnswer {
     Read(MacEnd),
     Refused(Refusal),
 }
 
 // What a read answers, and the cursor after it.
-#[derive(Drop)]
+#[derive(Clone, Copy)]
 pub struct MacEndRead {
     pub cursor: Cursor,
     pub answer: MacEndAnswer,
 }
 
 // A MAC-END: why it is not read, or number 0; and the offset after it.
-#[derive(Drop)]
+#[derive(Clone, Copy)]
 pub struct MacEndPart {
     pub refusal: Refusal,
     pub header: MacEnd,

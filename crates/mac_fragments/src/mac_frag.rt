@@ -16,28 +16,28 @@ pub const HEADER_BITS: usize = type_and_fill::TYPE_AND_FILL_BITS;
 
 const SUBTYPE: u64 = 0;
 
-#[derive(Drop)]
+#[derive(Clone, Copy)]
 pub struct MacFrag {
     // 1, whether fill bits follow the content
     pub fill_bits: bool,
 }
 
 // A MAC-FRAG, or why there is none.
-#[derive(Drop)]
+#[derive(Clone, Copy)]
 pub enum MacFragAnswer {
     Read(MacFrag),
     Refused(Refusal),
 }
 
 // What a read answers, and the cursor after it.
-#[derive(Drop)]
+#[derive(Clone, Copy)]
 pub struct MacFragRead {
     pub cursor: Cursor,
     pub answer: MacFragAnswer,
 }
 
 // A MAC-FRAG: why it is not read, or number 0; and the offset after it.
-#[derive(Drop)]
+#[derive(Clone, Copy)]
 pub struct MacFragPart {
     pub refusal: Refusal,
     pub header: MacFrag,

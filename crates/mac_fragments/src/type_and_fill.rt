@@ -22,7 +22,7 @@ const SUBTYPE: u64 = 1 << 1;
 const FRAGMENT: u64 = 1;
 
 // The first 4 bits as a part of a header: why they are not read, or number 0; and what is ahead after them.
-#[derive(Drop)]
+#[derive(Clone, Copy)]
 pub struct TypeAndFillPart {
     pub refusal: Refusal,
     pub fill_bits: bool,

@@ -11,7 +11,7 @@ use codec::piece::Piece;
 use codec::{Ahead, piece};
 use tetra_core::refusal::Refusal;
 
-#[derive(Drop)]
+#[derive(Clone, Copy)]
 pub enum OptionalAllocation {
     Without,
     // 25 or 27
@@ -19,7 +19,7 @@ pub enum OptionalAllocation {
 }
 
 // The channel allocation as a part of a header: why it is not read, or number 0; and what is ahead after it.
-#[derive(Drop)]
+#[derive(Clone, Copy)]
 pub struct AllocationPart {
     pub refusal: Refusal,
     pub chan_alloc_element: OptionalAllocation,

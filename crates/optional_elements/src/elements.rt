@@ -23,7 +23,7 @@ use tetra_core::refusal::Refusal;
 pub const FLAGS: usize = 3;
 
 // Each with the bits of its flag and its own.
-#[derive(Drop)]
+#[derive(Clone, Copy)]
 pub struct Elements {
     // 1, and 4 if set
     pub power_control_element: OptionalPower,
@@ -31,7 +31,7 @@ pub struct Elements {
 }
 
 // The elements as a part of a header: why they are not read, or number 0; and what is ahead after them.
-#[derive(Drop)]
+#[derive(Clone, Copy)]
 pub struct ElementsPart {
     pub refusal: Refusal,
     pub elements: Elements,

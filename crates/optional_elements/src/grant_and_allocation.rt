@@ -12,7 +12,7 @@ use codec::{Ahead, piece};
 use tetra_core::refusal::Refusal;
 
 // Each with the bits of its flag and its own.
-#[derive(Drop)]
+#[derive(Clone, Copy)]
 pub struct GrantAndAllocation {
     // 1, and 8 if set
     pub slot_granting_element: OptionalGrant,
@@ -21,7 +21,7 @@ pub struct GrantAndAllocation {
 }
 
 // Both as a part of a header: why they are not read, or number 0; and what is ahead after them.
-#[derive(Drop)]
+#[derive(Clone, Copy)]
 pub struct GrantAndAllocationPart {
     pub refusal: Refusal,
     pub elements: GrantAndAllocation,

@@ -17,7 +17,7 @@ const POWER_BITS: usize = 1 + LEVEL_BITS;
 
 const FLAG: u64 = 1 << 4;
 
-#[derive(Drop)]
+#[derive(Clone, Copy)]
 pub enum OptionalPower {
     Without,
     // 4 bits
@@ -25,7 +25,7 @@ pub enum OptionalPower {
 }
 
 // The power control as a part of a header: why it is not read, or number 0; and what is ahead after it.
-#[derive(Drop)]
+#[derive(Clone, Copy)]
 pub struct PowerPart {
     pub refusal: Refusal,
     pub power_control_element: OptionalPower,

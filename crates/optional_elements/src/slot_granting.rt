@@ -18,7 +18,7 @@ const GRANTING_BITS: usize = 1 + GRANT_BITS;
 
 const FLAG: u64 = 1 << 8;
 
-#[derive(Drop)]
+#[derive(Clone, Copy)]
 pub enum OptionalGrant {
     Without,
     // 8
@@ -26,7 +26,7 @@ pub enum OptionalGrant {
 }
 
 // The slot granting as a part of a header: why it is not read, or number 0; and what is ahead after it.
-#[derive(Drop)]
+#[derive(Clone, Copy)]
 pub struct GrantingPart {
     pub refusal: Refusal,
     pub slot_granting_element: OptionalGrant,

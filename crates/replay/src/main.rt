@@ -427,7 +427,7 @@ fn replayed(s: &[u8], first: usize, last: usize, counts: &mut [u64; 641]) -> boo
 const PAGE: usize = 16384;
 
 // Whether a page was well-formed to its end, and the byte that it was taken to.
-#[derive(Drop)]
+#[derive(Clone, Copy)]
 struct Ended {
     whole: bool,
     at: usize,
@@ -469,7 +469,7 @@ fn replay(s: &[u8], counts: &mut [u64; 641]) -> Ended {
 }
 
 // What came of a page: nothing to read, replayed, or malformed at a byte.
-#[derive(Drop)]
+#[derive(Clone, Copy)]
 enum Page {
     Nothing,
     Replayed,

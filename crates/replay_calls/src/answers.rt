@@ -6,7 +6,7 @@ use tetra_core::refusal::Refusal;
 pub const MALFORMED: u64 = 255;
 
 // The first numbers of a call; one that is not given is 0.
-#[derive(Drop)]
+#[derive(Clone, Copy)]
 pub(crate) struct Given {
     pub(crate) a: u64,
     pub(crate) b: u64,

@@ -4,7 +4,7 @@ ghost use Rattle.tetra_core.specs.Address.{uplink_address_type, ssi_address, upl
 ghost use Rattle.tetra_core.specs.declared.address.SsiType.TheVariants.{Issi};
 
 // What kind of short subscriber identity an SSI is. On the air all three are one: downlink reads give Ssi, uplink reads Issi.
-#[derive(Drop)]
+#[derive(Clone, Copy)]
 pub enum SsiType {
     // The kind is not known.
     Ssi,
@@ -15,7 +15,7 @@ pub enum SsiType {
 }
 
 // The address of a MAC-RESOURCE, clause 21.4.3.1: SSI, USSI and SMI have 24 bits, an event label 10, a usage marker 6.
-#[derive(Drop)]
+#[derive(Clone, Copy)]
 pub enum DownlinkAddress {
     NullPdu,
     Ssi(SsiType, u32),
@@ -28,7 +28,7 @@ pub enum DownlinkAddress {
 }
 
 // The address of a MAC-ACCESS or MAC-DATA, clauses 21.4.2.1 and 21.4.2.3.
-#[derive(Drop)]
+#[derive(Clone, Copy)]
 pub enum UplinkAddress {
     Ssi(SsiType, u32),
     EventLabel(u16),

@@ -10,7 +10,7 @@ use bits::{span, word};
 
 // A window over a slice and the bit that it has reached. It is good where start <= pos <= end, and end is at most 65,536 and
 // at most the bits of the slice.
-#[derive(Drop)]
+#[derive(Clone, Copy)]
 pub struct Cursor {
     pub start: usize,
     pub pos: usize,
@@ -18,35 +18,35 @@ pub struct Cursor {
 }
 
 // A number, or why there is none.
-#[derive(Drop)]
+#[derive(Clone, Copy)]
 pub enum BitsAnswer {
     Value(u64),
     Refused(Refusal),
 }
 
 // What a read answers, and the cursor after it.
-#[derive(Drop)]
+#[derive(Clone, Copy)]
 pub struct BitsRead {
     pub cursor: Cursor,
     pub answer: BitsAnswer,
 }
 
 // Whether a call that writes or moves was done, or the number of its refusal.
-#[derive(Drop)]
+#[derive(Clone, Copy)]
 pub enum Outcome {
     Done,
     Refused(u8),
 }
 
 // The cursor after a call that writes or moves.
-#[derive(Drop)]
+#[derive(Clone, Copy)]
 pub struct Moved {
     pub cursor: Cursor,
     pub answer: Outcome,
 }
 
 // Both cursors after a copy.
-#[derive(Drop)]
+#[derive(Clone, Copy)]
 pub struct Copied {
     pub cursor: Cursor,
     pub source: Cursor,
@@ -54,7 +54,7 @@ pub struct Copied {
 }
 
 // A window over a slice, or why there is none.
-#[derive(Drop)]
+#[derive(Clone, Copy)]
 pub enum Opened {
     Window(Cursor),
     Refused(Refusal),
@@ -216,7 +216,7 @@ pub fn peek_bits(s: &[u8], c: Cursor, num_bits: usize) -> BitsRead
 }
 
 // A bit of the slice that is so many bits from a cursor, or none where it would be before bit 0.
-#[derive(Drop)]
+#[derive(Clone, Copy)]
 enum Place {
     Bit(usize),
     Before,

@@ -5,15 +5,15 @@ ghost use Rattle.tetra_core.specs.Quantity.{octet_count};
 use crate::refusal;
 
 // A length in octets, as total_len_bytes of the Rust.
-#[derive(Drop)]
+#[derive(Clone, Copy)]
 pub struct Octets(pub u8);
 
 // A count of bits, as total_len of the Rust.
-#[derive(Drop)]
+#[derive(Clone, Copy)]
 pub struct Bits(pub u16);
 
 // The octets that a number of bits takes up, and the bits short of them; or the number of the refusal.
-#[derive(Drop)]
+#[derive(Clone, Copy)]
 pub enum OctetCount {
     Counted(Octets, Bits),
     Refused(u8),

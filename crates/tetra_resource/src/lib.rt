@@ -257,7 +257,7 @@ fn allocation_value(words: &[u64]) -> OptionalAllocation
 }
 
 // The fields before the address.
-#[derive(Drop)]
+#[derive(Clone, Copy)]
 struct FirstFields {
     fill_bits: bool,
     pos_of_grant: u8,

@@ -82,7 +82,7 @@ pub access_assign_written-back : (s : List ℕ) (c : Cursor) (a : AccessAssign) 
     → access_assign_at (access_assign_written s c a) c ≡ record { cursor = moved c assign_size; answer = AccessAssignAnswer.Read a }
 unfolding access_assign_at
 access_assign_written-back s c a e =
-    written_back read_access_assign _ _ _ s c (access_assign_refusal a) _ (access_assign_length a) (λ rest. access-assign-back a (free _ _ _ _ e).value rest 0) e
+    written_back read_access_assign (λ c' a'. record { cursor = c'; answer = a' }) AccessAssignAnswer.Read AccessAssignAnswer.Refused s c (access_assign_refusal a) _ (access_assign_length a) (λ rest. access-assign-back a (free _ _ _ _ e).value rest 0) e
 
 -- ---- what is read is written again
 

@@ -5,7 +5,7 @@ ghost use Rattle.access_assign.specs.Usage.{dl_marker, dl_usage_of, dl_is_traffi
 use crate::enums;
 use crate::enums::TrafficChannel;
 
-#[derive(Drop)]
+#[derive(Clone, Copy)]
 pub enum AccessAssignDlUsage {
     Unallocated,
     AssignedControl,

@@ -6,7 +6,7 @@ use crate::enums;
 use crate::enums::TrafficChannel;
 use tetra_core::refusal;
 
-#[derive(Drop)]
+#[derive(Clone, Copy)]
 pub enum AccessAssignUlUsage {
     // These three are told by the header and have no marker.
     CommonOnly,
@@ -18,14 +18,14 @@ pub enum AccessAssignUlUsage {
 }
 
 // The usage of a marker, or none: 1 to 3 mark nothing.
-#[derive(Drop)]
+#[derive(Clone, Copy)]
 pub enum UplinkUsage {
     Usage(AccessAssignUlUsage),
     Nothing,
 }
 
 // The marker of a usage, or none.
-#[derive(Drop)]
+#[derive(Clone, Copy)]
 pub enum UplinkMarker {
     Marker(u8),
     Nothing,

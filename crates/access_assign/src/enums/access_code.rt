@@ -2,7 +2,7 @@
 ghost use Rattle.std.specs.Prelude.{◌≡◌, ◌<◌};
 ghost use Rattle.access_assign.specs.AccessField.{access_code_number, access_code_of, access_code_case};
 
-#[derive(Drop)]
+#[derive(Clone, Copy)]
 pub enum AccessCode {
     AccessCodeA,
     AccessCodeB,
@@ -11,7 +11,7 @@ pub enum AccessCode {
 }
 
 // The case of a number, or none.
-#[derive(Drop)]
+#[derive(Clone, Copy)]
 pub enum AccessCodeCase {
     Case(AccessCode),
     Nothing,

@@ -10,7 +10,7 @@ use crate::structs::base_frame_length::BaseFrameLength;
 // What the access code is worth in an access field; the base frame-length is worth 1.
 const ACCESS_CODE: u64 = 1 << 4;
 
-#[derive(Drop)]
+#[derive(Clone, Copy)]
 pub struct AccessField {
     pub access_code: AccessCode,
     pub base_frame_len: BaseFrameLength,

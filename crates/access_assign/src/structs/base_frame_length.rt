@@ -2,7 +2,7 @@
 ghost use Rattle.std.specs.Prelude.{◌≡◌, ◌<◌};
 ghost use Rattle.access_assign.specs.AccessField.{base_frame_length_number, base_frame_length_of, base_frame_length_case};
 
-#[derive(Drop)]
+#[derive(Clone, Copy)]
 pub enum BaseFrameLength {
     // The subslot is assigned already; the access code has no meaning.
     ReservedSubslot,
@@ -27,7 +27,7 @@ pub enum BaseFrameLength {
 }
 
 // The case of a number, or none.
-#[derive(Drop)]
+#[derive(Clone, Copy)]
 pub enum BaseFrameLengthCase {
     Case(BaseFrameLength),
     Nothing,

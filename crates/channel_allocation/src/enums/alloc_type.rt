@@ -2,7 +2,7 @@
 ghost use Rattle.std.specs.Prelude.{◌≡◌, ◌<◌};
 ghost use Rattle.channel_allocation.specs.ChannelAllocation.{alloc_type_number, alloc_type_of, alloc_type_case};
 
-#[derive(Drop)]
+#[derive(Clone, Copy)]
 pub enum ChanAllocType {
     Replace,
     Additional,
@@ -11,7 +11,7 @@ pub enum ChanAllocType {
 }
 
 // The case of a number, or none.
-#[derive(Drop)]
+#[derive(Clone, Copy)]
 pub enum AllocTypeCase {
     Case(ChanAllocType),
     Nothing,

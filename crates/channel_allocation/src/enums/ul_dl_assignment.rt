@@ -2,7 +2,7 @@
 ghost use Rattle.std.specs.Prelude.{◌≡◌, ◌<◌};
 ghost use Rattle.channel_allocation.specs.ChannelAllocation.{ul_dl_number, ul_dl_of, ul_dl_case};
 
-#[derive(Drop)]
+#[derive(Clone, Copy)]
 pub enum UlDlAssignment {
     Augmented,
     Dl,
@@ -11,7 +11,7 @@ pub enum UlDlAssignment {
 }
 
 // The case of a number, or none.
-#[derive(Drop)]
+#[derive(Clone, Copy)]
 pub enum UlDlCase {
     Case(UlDlAssignment),
     Nothing,

@@ -56,7 +56,7 @@ pub mac_access_written-back : (s : List ℕ) (c : Cursor) (h : MacAccess) → re
     → mac_access_at (mac_access_written s c h) c ≡ record { cursor = moved c (mac_access_size h); answer = MacAccessAnswer.Read (normal h) }
 unfolding mac_access_at
 mac_access_written-back s c h e =
-    written_back read_mac_access _ _ _ s c (mac_access_refusal h) _ (mac_access_length h)
+    written_back read_mac_access (λ c' a'. record { cursor = c'; answer = a' }) MacAccessAnswer.Read MacAccessAnswer.Refused s c (mac_access_refusal h) _ (mac_access_length h)
     (λ rest. mac_access_back h (free _ _ _ _ e).value rest 0 ∙ rw zero-add) e
 
 -- ---- what was read is written again
@@ -86,7 +86,7 @@ pub mac_access_written-again : (s : List ℕ) (c d : Cursor) (h : MacAccess) →
     → (mac_access_write s c h ≡ record { cursor = d; answer = Done }) × (mac_access_written s c h ≡ s)
 unfolding mac_access_at
 mac_access_written-again s c d h b e f =
-    let r = read_at read_mac_access _ _ _ s c d h
+    let r = read_at read_mac_access (λ c' a'. record { cursor = c'; answer = a' }) MacAccessAnswer.Read MacAccessAnswer.Refused s c d h
     (λ x a q. (ap (λ (t : MacAccessRead). t.cursor) q, let u = ap (λ (t : MacAccessRead). t.answer) q in cc))
     (λ x j q. let u = ap (λ (t : MacAccessRead). t.answer) q in let z : ◌≡◌ {A = ℕ} 0 1 = cc in omega arith) e in
     let a = mac_access_again (within s c) r.seen in

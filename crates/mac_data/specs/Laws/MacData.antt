@@ -60,7 +60,7 @@ pub mac_data_written-back : (s : List ℕ) (c : Cursor) (h : MacData) → refusa
     → mac_data_at (mac_data_written s c h) c ≡ record { cursor = moved c (mac_data_size h); answer = MacDataAnswer.Read (normal h) }
 unfolding mac_data_at
 mac_data_written-back s c h e =
-    written_back read_mac_data _ _ _ s c (mac_data_refusal h) _ (mac_data_length h)
+    written_back read_mac_data (λ c' a'. record { cursor = c'; answer = a' }) MacDataAnswer.Read MacDataAnswer.Refused s c (mac_data_refusal h) _ (mac_data_length h)
     (λ rest. mac_data_back h (free _ _ _ _ e).value rest 0 ∙ rw zero-add) e
 
 -- ---- what was read is written again, where its reserved bit is 0
@@ -105,7 +105,7 @@ pub mac_data_written-again : (s : List ℕ) (c d : Cursor) (h : MacData) → Byt
     → (mac_data_write s c h ≡ record { cursor = d; answer = Done }) × (mac_data_written s c h ≡ s)
 unfolding mac_data_at
 mac_data_written-again s c d h b e f z =
-    let r = read_at read_mac_data _ _ _ s c d h
+    let r = read_at read_mac_data (λ c' a'. record { cursor = c'; answer = a' }) MacDataAnswer.Read MacDataAnswer.Refused s c d h
     (λ x a q. (ap (λ (t : MacDataRead). t.cursor) q, let u = ap (λ (t : MacDataRead). t.answer) q in cc))
     (λ x j q. let u = ap (λ (t : MacDataRead). t.answer) q in let z : ◌≡◌ {A = ℕ} 0 1 = cc in omega arith) e in
     let a = mac_data_again (within s c) r.seen in

@@ -128,7 +128,7 @@ pub null-read : (s : List ℕ) (c d : Cursor) (h : MacResource) → mac_resource
     → is_null h.addr ≡ true → h ≡ null_of h.length_ind
 unfolding mac_resource_at
 null-read s c d h e n =
-    let r = read_at read_mac_resource _ _ _ s c d h
+    let r = read_at read_mac_resource (λ c' a'. record { cursor = c'; answer = a' }) MacResourceAnswer.Read MacResourceAnswer.Refused s c d h
     (λ x a q. (ap (λ (t : MacResourceRead). t.cursor) q, let u = ap (λ (t : MacResourceRead). t.answer) q in cc))
     (λ x j q. let u = ap (λ (t : MacResourceRead). t.answer) q in let z : ◌≡◌ {A = ℕ} 0 1 = cc in omega arith) e in
     let k = (mac_resource_again (within s c) 0 r.seen).0 n in

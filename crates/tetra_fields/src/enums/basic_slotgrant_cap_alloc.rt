@@ -5,7 +5,7 @@ ghost use Rattle.tetra_fields.specs.BasicSlotgrant.{cap_alloc_number, cap_alloc_
 use crate::enums::reservation_requirement;
 use crate::enums::reservation_requirement::ReqSlotcount;
 
-#[derive(Drop)]
+#[derive(Clone, Copy)]
 pub enum BasicSlotgrantCapAlloc {
     FirstSubslotGranted,
     Grant1Slot,
@@ -26,14 +26,14 @@ pub enum BasicSlotgrantCapAlloc {
 }
 
 // The case of a number, or none.
-#[derive(Drop)]
+#[derive(Clone, Copy)]
 pub enum CapAllocCase {
     Case(BasicSlotgrantCapAlloc),
     Nothing,
 }
 
 // What a case grants.
-#[derive(Drop)]
+#[derive(Clone, Copy)]
 pub enum GrantedSlots {
     FirstSubslot,
     Slots(usize),

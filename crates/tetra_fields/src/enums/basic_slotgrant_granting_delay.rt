@@ -2,7 +2,7 @@
 ghost use Rattle.std.specs.Prelude.{◌≡◌, ◌<◌};
 ghost use Rattle.tetra_fields.specs.BasicSlotgrant.{delay_number, delay_of, delay_case};
 
-#[derive(Drop)]
+#[derive(Clone, Copy)]
 pub enum BasicSlotgrantGrantingDelay {
     CapAllocAtNextOpportunity,
     // 1 to 13 opportunities
@@ -12,7 +12,7 @@ pub enum BasicSlotgrantGrantingDelay {
 }
 
 // The case of a number, or none.
-#[derive(Drop)]
+#[derive(Clone, Copy)]
 pub enum GrantingDelayCase {
     Case(BasicSlotgrantGrantingDelay),
     Nothing,

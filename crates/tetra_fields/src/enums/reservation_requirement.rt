@@ -2,7 +2,7 @@
 ghost use Rattle.std.specs.Prelude.{◌≡◌, ◌<◌};
 ghost use Rattle.tetra_fields.specs.ReservationRequirement.{reservation_number, reservation_of, reservation_case, reservation_for, slotcount};
 
-#[derive(Drop)]
+#[derive(Clone, Copy)]
 pub enum ReservationRequirement {
     Req1Subslot,
     Req1Slot,
@@ -23,14 +23,14 @@ pub enum ReservationRequirement {
 }
 
 // The case of a number, or none.
-#[derive(Drop)]
+#[derive(Clone, Copy)]
 pub enum ReservationCase {
     Case(ReservationRequirement),
     Nothing,
 }
 
 // What a case asks for.
-#[derive(Drop)]
+#[derive(Clone, Copy)]
 pub enum ReqSlotcount {
     Subslot,
     Slots(usize),

@@ -23,28 +23,28 @@ const SIZE: usize = 8;
 // What the capacity is worth in the word of both fields; the delay is worth 1.
 const CAPACITY: u64 = 1 << 4;
 
-#[derive(Drop)]
+#[derive(Clone, Copy)]
 pub struct BasicSlotgrant {
     pub capacity_allocation: BasicSlotgrantCapAlloc,
     pub granting_delay: BasicSlotgrantGrantingDelay,
 }
 
 // A slot grant, or why there is none.
-#[derive(Drop)]
+#[derive(Clone, Copy)]
 pub enum SlotgrantAnswer {
     Read(BasicSlotgrant),
     Refused(Refusal),
 }
 
 // What a read answers, and the cursor after it.
-#[derive(Drop)]
+#[derive(Clone, Copy)]
 pub struct SlotgrantRead {
     pub cursor: Cursor,
     pub answer: SlotgrantAnswer,
 }
 
 // A slot grant as a part of a header: why it is not read, or number 0.
-#[derive(Drop)]
+#[derive(Clone, Copy)]
 pub struct SlotgrantPart {
     pub refusal: Refusal,
     pub grant: BasicSlotgrant,

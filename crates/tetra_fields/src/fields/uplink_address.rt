@@ -21,7 +21,7 @@ pub(crate) const BEFORE_LABEL: u64 = 1 << 10;
 pub(crate) const BEFORE_NUMBER: u64 = 1 << 24;
 
 // An address as a part of a header: why it is not read, or number 0; and what is ahead after it.
-#[derive(Drop)]
+#[derive(Clone, Copy)]
 pub struct UplinkAddressPart {
     pub refusal: Refusal,
     pub addr: UplinkAddress,

@@ -23,7 +23,7 @@ const FILL: u64 = 1 << 3;
 // The same of encrypted; the address type is worth 1.
 const ENCRYPTED: u64 = 1 << 2;
 
-#[derive(Drop)]
+#[derive(Clone, Copy)]
 pub struct UplinkHead {
     pub fill_bits: bool,
     pub encrypted: bool,
@@ -31,7 +31,7 @@ pub struct UplinkHead {
 }
 
 // The head as a part of a header: why it is not read, or number 0; and what is ahead after it.
-#[derive(Drop)]
+#[derive(Clone, Copy)]
 pub struct UplinkHeadPart {
     pub refusal: Refusal,
     pub head: UplinkHead,
