@@ -20,9 +20,15 @@ MEMBER = re.compile(r"^\s+(?:pub\s+)?([^\s(){}.;,@\"«»:]+)(?:\s+[^\s(){}:]+)*\
 OPENS = re.compile(r"^(?:abbrev |unfoldable |pub )*(?:data|record)\s")
 # where a snake-case name is taken already, by another definition or by a function whose fact a proof cites
 OTHER = {"readAt": "was_read_at"}
-# a lemma that has a definition's new name, where it stands and where it is cited
-LEMMA = "too_wide"
-LEMMA_IN = ("crates/tetra_fields/specs/Laws/UplinkAddress.antt", "crates/tetra_fields/proofs/fields/uplink_address/uplink_address_refusal/Proof.antt")
+# lemmas that have a definition's or a field's new name already, where they stand and where they are cited
+LAWS = "crates/block_rules/specs/Laws/"
+LEMMAS = {
+    "crates/tetra_fields/specs/Laws/UplinkAddress.antt": ["too_wide"],
+    "crates/tetra_fields/proofs/fields/uplink_address/uplink_address_refusal/Proof.antt": ["too_wide"],
+    LAWS + "Calls.antt": ["same_length", "after_finish"],
+    LAWS + "Demand3.antt": ["same_length", "after_finish"],
+    LAWS + "WrittenBack.antt": ["size_in"],
+}
 # names of std that lemmas are about
 OF_STD = "append cons nil suc zero one add sub mul div mod pow map length take drop set splice replicate reverse min max".split()
 
@@ -47,22 +53,35 @@ def declares(path):
 
 
 def declared():
-    found = set()
+    """The names that are declared, and those of them that stand at the left margin."""
+    found, outer = set(), set()
     for path in files("crates", ".antt"):
         if not declares(path):
             continue
-        inside = False
+        # the depth at which a line declares, one for each section that it stands in, and whether a record or a data type is open there
+        depths, members = [0], None
         for line in text(path).split("\n"):
-            if line.startswith(("--", "use ")) or not line.strip():
+            code = line.lstrip(" ")
+            if not code or code.startswith(("--", "use ", "open ")):
                 continue
-            if line[0] != " ":
-                inside = bool(OPENS.match(line)) and line.rstrip().endswith("where")
-                m = DECLARED.match(line)
+            depth = len(line) - len(code)
+            while depth < depths[-1]:
+                depths.pop()
+            if members is not None and depth < members:
+                members = None
+            if depth == depths[-1]:
+                if code.startswith("module ") and code.endswith(" where"):
+                    depths.append(depth + 2)
+                    continue
+                members = depth + 2 if OPENS.match(code) and code.rstrip().endswith("where") else None
+                m = DECLARED.match(code)
             else:
-                m = MEMBER.match(line) if inside and not line.startswith("    ") else None
+                m = MEMBER.match(line) if depth == members else None
             if m:
                 found.add(m.group(1))
-    return found
+                if len(depths) == 1:
+                    outer.add(m.group(1))
+    return found, outer
 
 
 def words(part):
@@ -83,10 +102,10 @@ def spelling(name, known):
 
 
 def table():
-    names = declared()
-    known = {n for n in names if "-" not in n} | set(OF_STD)
+    names, outer = declared()
+    known = {n for n in outer if "-" not in n} | set(OF_STD)
     rows = {n: spelling(n, known) for n in names}
-    taken = {n for n in names if rows[n] == n} - {LEMMA}
+    taken = {n for n in names if rows[n] == n} - {n for lemmas in LEMMAS.values() for n in lemmas}
     for a in sorted(rows, key=lambda n: ("-" in n, n)):
         b = rows[a]
         if a == b:
@@ -122,7 +141,7 @@ def main(argv):
         return
     for path in files("crates", ".antt", ".rt", ".edit"):
         old = text(path)
-        new = turned(old, rows | {LEMMA: LEMMA + "_lem"} if path in LEMMA_IN else rows)
+        new = turned(old, rows | {n: n + "_lem" for n in LEMMAS.get(path, ())})
         if new != old:
             with open(path, "w", encoding="utf-8") as f:
                 f.write(new)

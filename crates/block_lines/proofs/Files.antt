@@ -13,12 +13,12 @@ use Rattle.block_lines.specs.File.{bit_count, count_of, file_text, block_bytes, 
 use Rattle.block_lines.specs.Most.{listing_most}
 
 module _ (f : List ℕ) {d e : List ℕ} {at r : ℕ} where
-  pub file-short : length f < 2 → Put (length no_block_text) d at no_block_text r e → Put listing_most d at (file_text f) r e
-  file-short h l = rw (lt-ltb (length f) 2 h) (wider listing_most (omega arith) l)
+  pub file_short : length f < 2 → Put (length no_block_text) d at no_block_text r e → Put listing_most d at (file_text f) r e
+  file_short h l = rw (lt-ltb (length f) 2 h) (wider listing_most (omega arith) l)
 
-  pub file-whole : 2 ≤ length f → Put listing_most d at (listing_text (take (length f - 2) (drop 2 f)) (count_of f)) r e
+  pub file_whole : 2 ≤ length f → Put listing_most d at (listing_text (take (length f - 2) (drop 2 f)) (count_of f)) r e
       → Put listing_most d at (file_text f) r e
-  file-whole h l =
+  file_whole h l =
       let k : take (length f - 2) (drop 2 f) ≡ drop 2 f = take_all (length f - 2) (drop 2 f) (rw length-drop (omega arith)) in
       rw (le-ltb (length f) 2 h) (rw k at l)
 

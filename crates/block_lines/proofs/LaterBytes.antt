@@ -11,7 +11,7 @@ use lib.Seq.{take_all, take-take, length-take-le}
 use Rattle.bits.specs.Bits.{bits_of, bits_at}
 use Rattle.bits.specs.Laws.Bytes.{take_bits_of}
 use Rattle.block_rules.specs.Numbers.{most_bits}
-use Rattle.block_rules.specs.Walk.{good_block, walkFrom}
+use Rattle.block_rules.specs.Walk.{good_block, walk_from}
 use Rattle.block_rules.specs.Downlink.{downlink_reader}
 use Rattle.block_rules.specs.Demand3.{IsBlock}
 use Rattle.block_rules.specs.Laws.Walks.{from}
@@ -28,22 +28,22 @@ module _ (v : List ℕ) (n k : ℕ) (limit : n ≤ most_bits) (enough : n ≤ 8 
   in_all : IsBlock n v
   in_all = record { limit = limit; inside = omega arith }
 
-  in-part : IsBlock n (take k v)
-  in-part = record { limit = limit; inside = rw (length-take-le k v there) enough }
+  in_part : IsBlock n (take k v)
+  in_part = record { limit = limit; inside = rw (length-take-le k v there) enough }
 
   same_bits : block n (take k v) ≡ block n v
   unfolding bits_at
   same_bits = ap (take n) (sym (take_bits_of k v there)) ∙ take-take n (8 * k) (bits_of v) enough
 
-  same-walk : walkFrom downlink_reader (take k v) n 0 ≡ walkFrom downlink_reader v n 0
-  same-walk = walk_block in-part downlink_reader 0 ∙ ap (λ b. from downlink_reader b 0) same_bits ∙ sym (walk_block in_all downlink_reader 0)
+  same_walk : walk_from downlink_reader (take k v) n 0 ≡ walk_from downlink_reader v n 0
+  same_walk = walk_block in_part downlink_reader 0 ∙ ap (λ b. from downlink_reader b 0) same_bits ∙ sym (walk_block in_all downlink_reader 0)
 
   same_text : block_text (take k v) n ≡ block_text v n
   unfolding lines_from rest_from walk_on
-  same_text = rw same-walk
+  same_text = rw same_walk
 
   same-listing : listing_text (take k v) n ≡ listing_text v n
-  same-listing = rw (good-block in-part, good-block in_all) same_text
+  same-listing = rw (good-block in_part, good-block in_all) same_text
 
 over_limit : (n m : ℕ) → most_bits < n → good_block n m ≡ false
 unfolding good_block

@@ -15,7 +15,7 @@ use Rattle.text.specs.Laws.Puts.{then, wider, reads, put_nothing, at-start, star
 use Rattle.mac_block.specs.declared.reader.BlockEntry.{BlockEntry}
 use Rattle.mac_block.specs.declared.reader.StepAnswer.{StepAnswer}
 use Rattle.mac_block.specs.contracts.reader.StepAnswer.{the_type}
-use Rattle.block_rules.specs.Walk.{good_block, step, follow, walkBy, walkFrom, walk}
+use Rattle.block_rules.specs.Walk.{good_block, step, follow, walk_by, walk_from, walk}
 use Rattle.block_rules.specs.Downlink.{downlink_reader}
 use Rattle.block_rules.specs.Laws.Blocks.{held}
 use Rattle.block_rules.specs.Laws.Demand3Downlink.{demand_3_of_blocks}
@@ -39,20 +39,20 @@ not_one (inr e) = omega arith
 module _ (v : List ℕ) (n : ℕ) where
   -- ---- how many lines there are
 
-  counted : good_block n (length v) ≡ true → length (walkFrom downlink_reader v n 0).entries ≤ entries_most
+  counted : good_block n (length v) ≡ true → length (walk_from downlink_reader v n 0).entries ≤ entries_most
   unfolding walk
   counted good =
       let h = held n v good in
       let k = demand_3_of_blocks.walks.count n v h in
       omega (arith, k, h.limit)
 
-  no-entries : good_block n (length v) ≡ false → (walkFrom downlink_reader v n 0).entries ≡ []
-  unfolding walkFrom walkBy follow step
-  no-entries bad = rw bad
+  no_entries : good_block n (length v) ≡ false → (walk_from downlink_reader v n 0).entries ≡ []
+  unfolding walk_from walk_by follow step
+  no_entries bad = rw bad
 
-  few-entries : (g : Bool) → good_block n (length v) ≡ g → length (walkFrom downlink_reader v n 0).entries ≤ entries_most
+  few-entries : (g : Bool) → good_block n (length v) ≡ g → length (walk_from downlink_reader v n 0).entries ≤ entries_most
   few-entries true good = counted good
-  few-entries false bad = rw (no-entries bad) (omega arith)
+  few-entries false bad = rw (no_entries bad) (omega arith)
 
   few-lines : length (lines_from v n (Position.At 0)) ≤ entries_most
   unfolding lines_from walk_on
@@ -72,10 +72,10 @@ module _ (v : List ℕ) (n : ℕ) where
   ends_by p StepAnswer.End k = refl
   ends_by p (StepAnswer.Refused r) k = refl
 
-  no-next : (x : Position) {w : WalkStep} → w ≡ step_from v n x → NoEntry w.answer → lines_from v n x ≡ []
+  no_next : (x : Position) {w : WalkStep} → w ≡ step_from v n x → NoEntry w.answer → lines_from v n x ≡ []
   unfolding step_from lines_from walk_on
-  no-next (Position.At p) q k = lines_on v n (Position.At p) ∙ ends_by p _ (rw q at k)
-  no-next (Position.Ended q) e k = refl
+  no_next (Position.At p) q k = lines_on v n (Position.At p) ∙ ends_by p _ (rw q at k)
+  no_next (Position.Ended q) e k = refl
 
   -- ---- the lines up to a position are put, and the others are to come
 
@@ -108,7 +108,7 @@ module _ (v : List ℕ) (n : ℕ) where
       → m ≡ rest_from v n w.position → Put rest_most e p (rest_text m) r f → Put listing_most d at (block_text v n) r f
   unfolding lines_text
   finish x k q a m l =
-      let e = no-next x q a in
+      let e = no_next x q a in
       let t : k.text ≡ lines_text (lines_from v n (Position.At 0)) = sym (append-nil k.text) ∙ (rw e at k.whole) in
       wider listing_most (omega (arith, k.count)) (then (reads t k.put) (rw (m ∙ same_rest v n x q ∙ k.rest) at l))
 

@@ -7,9 +7,9 @@ use Rattle.block_rules.specs.Numbers.{most_bits, least_bits}
 use Rattle.block_rules.specs.Extent.{Spared}
 use Rattle.block_rules.specs.Codec.{HeaderReader, HeaderWriter, Codec}
 use Rattle.block_rules.specs.Read.{Reading}
-use Rattle.block_rules.specs.Walk.{Pdu, Entry, place, sizeIn, ownBits, step, Walk, follow, walkFrom, walk}
-use Rattle.block_rules.specs.Writer.{Writer, finish_to, good_bit, addCheck, add_refusal}
-use Rattle.block_rules.specs.Run.{Call, start, holdsFinish, perform, refusal, run, expected}
+use Rattle.block_rules.specs.Walk.{Pdu, Entry, place, size_in, own_bits, step, Walk, follow, walk_from, walk}
+use Rattle.block_rules.specs.Writer.{Writer, finish_to, good_bit, add_check, add_refusal}
+use Rattle.block_rules.specs.Run.{Call, start, holds_finish, perform, refusal, run, expected}
 use Rattle.block_rules.specs.Altered.{bit_at, IsPdu, Altered, AlteredOne}
 
 -- "a block has its N bits, at most 488, inside its lent bytes"
@@ -36,7 +36,7 @@ pub record Isolated {H : Type 0} (before after : Walk H) (altered : ℕ → Bool
 
 pub record OfTheWalk {H : Type 0} (R : HeaderReader H) : Type 0 where
   -- "all steps from bit 0 to the end, each from the last one's PDU end": the walk from a bit is the step there, and what follows it
-  pub steps : (n : ℕ) (v : List ℕ) → IsBlock n v → (p : ℕ) → p ≤ n → walkFrom R v n p ≡ follow (walkFrom R v n) p (step R v n p)
+  pub steps : (n : ℕ) (v : List ℕ) → IsBlock n v → (p : ℕ) → p ≤ n → walk_from R v n p ≡ follow (walk_from R v n) p (step R v n p)
   pub covers : (n : ℕ) (v : List ℕ) → IsBlock n v → Covers n 0 (walk R v n).entries (walk R v n).rest_at
   pub count : (n : ℕ) (v : List ℕ) → IsBlock n v → length (walk R v n).entries ≤ n / least_bits
   -- header, content and fill make up the PDU; "content is the range and its bits"
@@ -45,12 +45,12 @@ pub record OfTheWalk {H : Type 0} (R : HeaderReader H) : Type 0 where
       → (m + (length content + fill) ≡ s) × (bits_at v (e.bit + m) (length content) ≡ content)
   -- "wherever the same bits are a PDU, in any block, header, content and refusal are the same, ranges counted from the PDU's first bit"
   pub own_bits_alone : (n n' : ℕ) (v v' : List ℕ) → IsBlock n v → IsBlock n' v'
-      → (k k' : ℕ) (e e' : Entry H) → IsPdu R n v k e → IsPdu R n' v' k' e' → ownBits n v e ≡ ownBits n' v' e' → e.pdu ≡ e'.pdu
+      → (k k' : ℕ) (e e' : Entry H) → IsPdu R n v k e → IsPdu R n' v' k' e' → own_bits n v e ≡ own_bits n' v' e' → e.pdu ≡ e'.pdu
 
 pub record OfAlteredPdus {H : Type 0} (R : HeaderReader H) : Type 0 where
   -- "Whatever bits anybody puts into one PDU", but for the spared ones, alter that PDU
   pub any_bits : (n : ℕ) (v : List ℕ) → IsBlock n v → (k : ℕ) (e : Entry H) → IsPdu R n v k e
-      → (xs : List Bool) → length xs ≡ sizeIn n e → ((i : ℕ) → Spared (ownBits n v e) i → get_or xs i false ≡ get_or (ownBits n v e) i false)
+      → (xs : List Bool) → length xs ≡ size_in n e → ((i : ℕ) → Spared (own_bits n v e) i → get_or xs i false ≡ get_or (own_bits n v e) i false)
       → AlteredOne R n v (put_bits v e.bit xs) k e
   pub one : (n : ℕ) (v v' : List ℕ) → IsBlock n v → IsBlock n v'
       → (k : ℕ) (e : Entry H) → AlteredOne R n v v' k e → Isolated (walk R v n) (walk R v' n) (eqb k)
@@ -60,12 +60,12 @@ pub record OfAlteredPdus {H : Type 0} (R : HeaderReader H) : Type 0 where
 pub record OfARun {A H : Type 0} (C : Codec A H) : Type 0 where
   -- "After every list of adds and finishes that holds a finish, refused calls included, run from bit 0 of a block with any bytes, the walk
   -- gives exactly the accepted adds in their order, .. then the null PDU if one was written."
-  pub written : (n : ℕ) (v : List ℕ) → IsBlock n v → (cs : List (Call A)) → holdsFinish cs ≡ true
+  pub written : (n : ℕ) (v : List ℕ) → IsBlock n v → (cs : List (Call A)) → holds_finish cs ≡ true
       → walk C.reader (run C.writer n cs (start v)).bytes n ≡ expected C n cs v
   -- "There too, with one PDU altered under the same sparing, every other PDU still reads just so."
-  pub one_altered : (n : ℕ) (v v' : List ℕ) → IsBlock n v → IsBlock n v' → (cs : List (Call A)) → holdsFinish cs ≡ true
+  pub one_altered : (n : ℕ) (v v' : List ℕ) → IsBlock n v → IsBlock n v' → (cs : List (Call A)) → holds_finish cs ≡ true
       → (k : ℕ) (e : Entry H) → AlteredOne C.reader n (run C.writer n cs (start v)).bytes v' k e → Isolated (expected C n cs v) (walk C.reader v' n) (eqb k)
-  pub several_altered : (n : ℕ) (v v' : List ℕ) → IsBlock n v → IsBlock n v' → (cs : List (Call A)) → holdsFinish cs ≡ true
+  pub several_altered : (n : ℕ) (v v' : List ℕ) → IsBlock n v → IsBlock n v' → (cs : List (Call A)) → holds_finish cs ≡ true
       → (altered : ℕ → Bool) → Altered C.reader n (run C.writer n cs (start v)).bytes v' altered → Isolated (expected C n cs v) (walk C.reader v' n) altered
 
 pub record OfEachCall {A : Type 0} (W : HeaderWriter A) : Type 0 where
@@ -79,7 +79,7 @@ pub record OfEachCall {A : Type 0} (W : HeaderWriter A) : Type 0 where
   pub after_finish : (n : ℕ) (w : Writer) → IsBlock n w.bytes → good_bit n w.bit ≡ true
       → (cs : List (Call A)) → run W n cs (finish_to n w) ≡ finish_to n w
   pub add_after_finish : (n : ℕ) (v : List ℕ) → IsBlock n v → (a : A) (slice k : ℕ)
-      → add_refusal W (length v) n n a slice k ≡ first (unless (leb k (8 * slice)) 13 ∷ addCheck W a k ∷ 2 ∷ [])
+      → add_refusal W (length v) n n a slice k ≡ first (unless (leb k (8 * slice)) 13 ∷ add_check W a k ∷ 2 ∷ [])
 
 pub record Demand3 {A H : Type 0} (C : Codec A H) : Type 0 where
   pub walks : OfTheWalk C.reader

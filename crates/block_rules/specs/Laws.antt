@@ -6,7 +6,7 @@
 -- Covering         what a cover of a block says of its entries
 -- Own              what an entry says of its PDU is what the PDU's bits say
 -- Isolation        two blocks that agree in the spared bits of each PDU have walks alike
--- Blocks, Held     the same of a block in lent bytes; `step-there`: a step, by the extent there
+-- Blocks, Held     the same of a block in lent bytes; `step_there`: a step, by the extent there
 -- Altered          altered PDUs of a block in lent bytes
 -- Refusals         what is known where nothing refuses a call of the writer
 -- WrittenBack      a PDU that was written has the extent and the reading that it must have

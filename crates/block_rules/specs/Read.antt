@@ -21,22 +21,22 @@ before_last_one (x ∷ xs) = extend x (before_last_one xs)
 
 module _ {H : Type 0} where
   -- "With fill set, the PDU's last 1 after the header, and the zeros after it, are fill." Where there is no 1: "12 .. the header's end"
-  unfoldable pub behindHeader : H → ℕ → Bool → List Bool → Reading H
-  behindHeader h n false bits = Reading.read h n bits 0
-  behindHeader h n true bits =
+  unfoldable pub behind_header : H → ℕ → Bool → List Bool → Reading H
+  behind_header h n false bits = Reading.read h n bits 0
+  behind_header h n true bits =
       elim (before_last_one bits) [
         | some c ↦ Reading.read h n c (length bits - length c)
         | none ↦ Reading.refused 12 n
       ]
 
   -- a PDU, by its bits
-  unfoldable pub readOwn : HeaderReader H → List Bool → Reading H
-  readOwn R own =
+  unfoldable pub read_own : HeaderReader H → List Bool → Reading H
+  read_own R own =
       elim (R.read_header own) [
-        | Out.got h rest n ↦ behindHeader h n (R.fill_flag h) (drop n own)
+        | Out.got h rest n ↦ behind_header h n (R.fill_flag h) (drop n own)
         | Out.refused j o ↦ Reading.refused j o
       ]
 
   -- the PDU of s bits that begins these bits: "A header is read inside its PDU only"
-  unfoldable pub readPdu : HeaderReader H → List Bool → (s : ℕ) → Reading H
-  readPdu R bits s = readOwn R (take s bits)
+  unfoldable pub read_pdu : HeaderReader H → List Bool → (s : ℕ) → Reading H
+  read_pdu R bits s = read_own R (take s bits)

@@ -6,7 +6,7 @@ use Rattle.block_rules.specs.declared.extent.Extent.{Extent}
 use Rattle.block_rules.specs.Numbers.{most_bits, least_bits}
 use Rattle.block_rules.specs.Extent.{extent}
 use Rattle.block_rules.specs.Codec.{HeaderReader}
-use Rattle.block_rules.specs.Read.{Reading, readPdu}
+use Rattle.block_rules.specs.Read.{Reading, read_pdu}
 
 -- "0 to 488 bits" inside the lent bytes; 13 else: "bit count over limit or slice"
 unfoldable pub good_block : (n bytes : ℕ) → Bool
@@ -26,27 +26,27 @@ pub record Entry (H : Type 0) : Type 0 where
   pub pdu : Pdu H
 
 module _ {H : Type 0} where
-  unfoldable pub endFrom : ℕ → Pdu H → Option ℕ
-  endFrom p (Pdu.null l) = some (p + least_bits)
-  endFrom p (Pdu.sized s r) = some (p + s)
-  endFrom p (Pdu.unsized j o) = none
+  unfoldable pub end_from : ℕ → Pdu H → Option ℕ
+  end_from p (Pdu.null l) = some (p + least_bits)
+  end_from p (Pdu.sized s r) = some (p + s)
+  end_from p (Pdu.unsized j o) = none
 
   -- "Place is .. the bit, and the end where there is one"
   unfoldable pub place : Entry H → ℕ × Option ℕ
-  place e = (e.bit, endFrom e.bit e.pdu)
+  place e = (e.bit, end_from e.bit e.pdu)
 
   -- "A PDU's bits run from its bit to its end: 16 for null, to N where a refusal gives no end": how many, where `left` are left to N
-  unfoldable pub ownSize : (left : ℕ) → Pdu H → ℕ
-  ownSize left (Pdu.null l) = least_bits
-  ownSize left (Pdu.sized s r) = s
-  ownSize left (Pdu.unsized j o) = left
+  unfoldable pub own_size : (left : ℕ) → Pdu H → ℕ
+  own_size left (Pdu.null l) = least_bits
+  own_size left (Pdu.sized s r) = s
+  own_size left (Pdu.unsized j o) = left
 
-  abbrev pub sizeIn : (n : ℕ) → Entry H → ℕ
-  sizeIn n e = ownSize (n - e.bit) e.pdu
+  abbrev pub size_in : (n : ℕ) → Entry H → ℕ
+  size_in n e = own_size (n - e.bit) e.pdu
 
   -- these bits, in a block of n bits
-  unfoldable pub ownBits : (n : ℕ) → List ℕ → Entry H → List Bool
-  ownBits n v e = bits_at v e.bit (sizeIn n e)
+  unfoldable pub own_bits : (n : ℕ) → List ℕ → Entry H → List Bool
+  own_bits n v e = bits_at v e.bit (size_in n e)
 
 -- ---- one step
 
@@ -62,23 +62,23 @@ module _ {H : Type 0} where
   step_of p (some x) = Step.entry (record { bit = p; pdu = x })
 
   module _ (R : HeaderReader H) where
-    unfoldable pub pduOf : List Bool → Extent → Option (Pdu H)
-    pduOf bits Extent.End = none
-    pduOf bits (Extent.Unsized j o) = some (Pdu.unsized j o)
-    pduOf bits (Extent.Null l) = some (Pdu.null l)
-    pduOf bits (Extent.Sized s) = some (Pdu.sized s (readPdu R bits s))
+    unfoldable pub pdu_of : List Bool → Extent → Option (Pdu H)
+    pdu_of bits Extent.End = none
+    pdu_of bits (Extent.Unsized j o) = some (Pdu.unsized j o)
+    pdu_of bits (Extent.Null l) = some (Pdu.null l)
+    pdu_of bits (Extent.Sized s) = some (Pdu.sized s (read_pdu R bits s))
 
     -- the PDU that begins these bits, of which the last is the block's
-    unfoldable pub firstPdu : List Bool → Option (Pdu H)
-    firstPdu bits = pduOf bits (extent bits)
+    unfoldable pub first_pdu : List Bool → Option (Pdu H)
+    first_pdu bits = pdu_of bits (extent bits)
 
     -- "A step from a bit past N is refused 13"
-    unfoldable pub stepAt : List Bool → ℕ → Step H
-    stepAt block p = cond (leb p (length block)) (step_of p (firstPdu (drop p block))) (Step.refused 13 0)
+    unfoldable pub step_at : List Bool → ℕ → Step H
+    step_at block p = cond (leb p (length block)) (step_of p (first_pdu (drop p block))) (Step.refused 13 0)
 
     -- in a block of n bits in the lent bytes v
     unfoldable pub step : List ℕ → (n p : ℕ) → Step H
-    step v n p = cond (good_block n (length v)) (stepAt (bits_at v 0 n) p) (Step.refused 13 0)
+    step v n p = cond (good_block n (length v)) (step_at (bits_at v 0 n) p) (Step.refused 13 0)
 
 -- ---- the walk
 
@@ -92,30 +92,30 @@ module _ {H : Type 0} where
   ended p = record { entries = []; rest_at = p }
 
   -- entries in front of a walk
-  abbrev pub entriesThen : List (Entry H) → Walk H → Walk H
-  entriesThen es w = record { entries = es ++ w.entries; rest_at = w.rest_at }
+  abbrev pub entries_then : List (Entry H) → Walk H → Walk H
+  entries_then es w = record { entries = es ++ w.entries; rest_at = w.rest_at }
 
   -- a PDU that has an end is walked on from there, read or refused; "Rest is the bits after a null PDU, or from p where the walk ended
   -- otherwise"
-  unfoldable pub goOn : (ℕ → Walk H) → ℕ → Pdu H → Walk H
-  goOn walk p (Pdu.null l) = ended (p + least_bits)
-  goOn walk p (Pdu.sized s r) = walk (p + s)
-  goOn walk p (Pdu.unsized j o) = ended p
+  unfoldable pub go_on : (ℕ → Walk H) → ℕ → Pdu H → Walk H
+  go_on walk p (Pdu.null l) = ended (p + least_bits)
+  go_on walk p (Pdu.sized s r) = walk (p + s)
+  go_on walk p (Pdu.unsized j o) = ended p
 
   -- the walk from bit p, by the step there and the walks from later bits
   unfoldable pub follow : (ℕ → Walk H) → ℕ → Step H → Walk H
   follow walk p (Step.refused j o) = ended p
   follow walk p Step.end = ended p
-  follow walk p (Step.entry e) = entriesThen (e ∷ []) (goOn walk e.bit e.pdu)
+  follow walk p (Step.entry e) = entries_then (e ∷ []) (go_on walk e.bit e.pdu)
 
   -- by at most so many steps
-  unfoldable pub walkBy : (ℕ → Step H) → ℕ → ℕ → Walk H
-  walkBy step zero p = ended p
-  walkBy step (suc n) p = follow (walkBy step n) p (step p)
+  unfoldable pub walk_by : (ℕ → Step H) → ℕ → ℕ → Walk H
+  walk_by step zero p = ended p
+  walk_by step (suc n) p = follow (walk_by step n) p (step p)
 
   -- each step but the last moves on by 16 bits or more, so that n + 1 steps are enough
-  unfoldable pub walkFrom : HeaderReader H → List ℕ → (n p : ℕ) → Walk H
-  walkFrom R v n p = walkBy (step R v n) (suc n) p
+  unfoldable pub walk_from : HeaderReader H → List ℕ → (n p : ℕ) → Walk H
+  walk_from R v n p = walk_by (step R v n) (suc n) p
 
   unfoldable pub walk : HeaderReader H → List ℕ → ℕ → Walk H
-  walk R v n = walkFrom R v n 0
+  walk R v n = walk_from R v n 0

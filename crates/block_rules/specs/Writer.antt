@@ -104,15 +104,15 @@ module _ {A : Type 0} (W : HeaderWriter A) where
   abbrev pub total_of : Add A → ℕ
   total_of a = total a.header a.bits
 
-  unfoldable pub addCheck : A → (k : ℕ) → ℕ
-  addCheck a k = check_of (W.header_len a) (W.check a) k
+  unfoldable pub add_check : A → (k : ℕ) → ℕ
+  add_check a k = check_of (W.header_len a) (W.check a) k
 
   unfoldable pub add_refusal : (bytes n p : ℕ) → A → (slice k : ℕ) → ℕ
   add_refusal bytes n p a slice k = refusal_of bytes n p (W.header_len a) (W.check a) slice k
 
   -- the length field that an add sets, and the bits and the fill of its PDU where `left` bits are left to N
-  abbrev pub lengthIn : Add A → ℕ
-  lengthIn a = length_of (W.ending a.header) (total_of a)
+  abbrev pub length_in : Add A → ℕ
+  length_in a = length_of (W.ending a.header) (total_of a)
 
   abbrev pub size_of : (left : ℕ) → Add A → ℕ
   size_of left a = pdu_size (W.ending a.header) left (total_of a)
@@ -121,12 +121,12 @@ module _ {A : Type 0} (W : HeaderWriter A) where
   fill_of left a = pdu_fill (W.ending a.header) left (total_of a)
 
   -- what an add writes there
-  unfoldable pub addedBits : (left : ℕ) → Add A → List Bool
-  addedBits left a = pdu_bits (W.write_header a.header) (lengthIn a) (content_of a) (fill_of left a)
+  unfoldable pub added_bits : (left : ℕ) → Add A → List Bool
+  added_bits left a = pdu_bits (W.write_header a.header) (length_in a) (content_of a) (fill_of left a)
 
   -- "An add that no number refuses is accepted and moves the bit to its PDU's end"
   unfoldable pub added : (n : ℕ) → Writer → Add A → Writer
-  added n w a = record { bytes = put_bits w.bytes w.bit (addedBits (n - w.bit) a); bit = w.bit + size_of (n - w.bit) a }
+  added n w a = record { bytes = put_bits w.bytes w.bit (added_bits (n - w.bit) a); bit = w.bit + size_of (n - w.bit) a }
 
-  unfoldable pub addTo : (n : ℕ) → Writer → Add A → Writer
-  addTo n w a = after (add_refusal (length w.bytes) n w.bit a.header (length a.content) a.bits) w (added n w a)
+  unfoldable pub add_to : (n : ℕ) → Writer → Add A → Writer
+  add_to n w a = after (add_refusal (length w.bytes) n w.bit a.header (length a.content) a.bits) w (added n w a)

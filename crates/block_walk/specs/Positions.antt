@@ -39,7 +39,7 @@ step_from v n (Position.Ended q) = record { position = Position.Ended q; answer 
 
 -- the block's walk, from a position on
 unfoldable pub walk_on : (v : List ℕ) (n : ℕ) → Position → block.Walk DownlinkHeader
-walk_on v n (Position.At p) = block.walkFrom downlink_reader v n p
+walk_on v n (Position.At p) = block.walk_from downlink_reader v n p
 walk_on v n (Position.Ended q) = block.ended q
 
 -- how many bits the rest has of the walk from a position on

@@ -52,7 +52,7 @@ use Rattle.mac_resource.specs.MacResource.{null_pdu, mac_resource_at, mac_resour
 use Rattle.block_rules.specs.declared.to_add.LengthIndication.{LengthIndication}
 use Rattle.block_rules.specs.Read.{Reading}
 use Rattle.block_rules.specs.Walk.{Pdu, Entry, Walk, step, walk}
-use Rattle.block_rules.specs.Writer.{Writer, writer_at, finish_to, add_of, addTo}
+use Rattle.block_rules.specs.Writer.{Writer, writer_at, finish_to, add_of, add_to}
 use Rattle.block_rules.specs.Run.{Call, run}
 use Rattle.block_rules.specs.Downlink.{DownlinkHeader, downlink_reader, HeaderToAdd, resource_to_add, downlink_writer}
 use Rattle.mac_block.specs.declared.reader.BlockEntry.{BlockEntry}
@@ -132,7 +132,7 @@ allocation d p f =
 
 unfoldable pub answers : (n : ℕ) → List (Call HeaderToAdd) → Writer → List Written
 answers n [] w = []
-answers n (Call.add a ∷ cs) w = add_answer downlink_writer n w a ∷ answers n cs (addTo downlink_writer n w a)
+answers n (Call.add a ∷ cs) w = add_answer downlink_writer n w a ∷ answers n cs (add_to downlink_writer n w a)
 answers n (Call.finish ∷ cs) w = finish_answer n w ∷ answers n cs (finish_to n w)
 
 -- a block of n bits in these bytes, after these calls from bit p on, and from bit 0 on

@@ -21,14 +21,14 @@ module _ (e : EncodedHeader) (few : Few e) (l : ℕ) (f : Bool) (h : Fit (pieces
   below : e.front.value + (len + flag) < 2 ^ 64
   below = lt_of_lt_of_le h.0 (pow_mono {j = 64} (omega (arith, few.0)))
 
-  pub length-exact : len % 2 ^ 64 ≡ len
-  length-exact = mod-eq_of_lt (omega (arith, below))
+  pub length_exact : len % 2 ^ 64 ≡ len
+  length_exact = mod-eq_of_lt (omega (arith, below))
 
-  pub flag-exact : flag % 2 ^ 64 ≡ flag
-  flag-exact = mod-eq_of_lt (omega (arith, below))
+  pub flag_exact : flag % 2 ^ 64 ≡ flag
+  flag_exact = mod-eq_of_lt (omega (arith, below))
 
   pub sum_fits : Fits w64 (len % 2 ^ 64 + flag % 2 ^ 64)
-  sum_fits = record { fits = rw (length-exact, flag-exact) (omega (arith, below)) }
+  sum_fits = record { fits = rw (length_exact, flag_exact) (omega (arith, below)) }
 
-  pub all-fits : Fits w64 (e.front.value + (len % 2 ^ 64 + flag % 2 ^ 64))
-  all-fits = record { fits = rw (length-exact, flag-exact) below }
+  pub all_fits : Fits w64 (e.front.value + (len % 2 ^ 64 + flag % 2 ^ 64))
+  all_fits = record { fits = rw (length_exact, flag_exact) below }

@@ -188,8 +188,8 @@ regroup xs ys zs ws = rw (append_assoc xs (ys ++ zs) ws, append_assoc ys zs ws)
 
 module _ {at : Places} {xs : ℕ → Bool → List Bool} (s : Spaced at xs) {n : ℕ} {p : Piece} (h : Holds (xs 0 false) n p) where
   -- the front's bits before, between and behind the places
-  spaced-length : at.length + length s.behind ≡ n
-  spaced-length =
+  spaced_length : at.length + length s.behind ≡ n
+  spaced_length =
       omega (
         arith,
         length-is h,
@@ -205,9 +205,9 @@ module _ {at : Places} {xs : ℕ → Bool → List Bool} (s : Spaced at xs) {n :
       let a = set-field s.before (s.between ++ (bits_of_nat 6 0 ++ s.behind)) 1 (digit f) (digit_lt f) (omega arith) (rw (s.is 0 false) at h) in
       let b = set-field (s.before ++ (bits_of_nat 1 (digit f) ++ s.between)) s.behind 6 l k (omega arith)
       (rw (regroup s.before (bits_of_nat 1 (digit f)) s.between (bits_of_nat 6 0 ++ s.behind)) at a) in
-      let y : length s.behind ≡ p.bits - at.length = omega (arith, spaced-length, h.size) in
+      let y : length s.behind ≡ p.bits - at.length = omega (arith, spaced_length, h.size) in
       let x : length (s.between ++ (bits_of_nat 6 0 ++ s.behind)) ≡ p.bits - at.fill =
-      omega (arith, spaced-length, h.size, length_around s.between s.behind 6 0, s.fill, s.len) in
+      omega (arith, spaced_length, h.size, length_around s.between s.behind 6 0, s.fill, s.len) in
       let v : p.value + digit f * 2 ^ (p.bits - at.fill) + l * 2 ^ (p.bits - at.length) ≡ (set_in at p l f).value = omega arith in
       rw (s.is l f, ← v, ← x, ← y, regroup s.before (bits_of_nat 1 (digit f)) s.between (bits_of_nat 6 l ++ s.behind), h.size) b
 

@@ -28,14 +28,14 @@ module _ (m j k bytes n p slice : ℕ) where
     tests : (good_block n bytes ≡ true) × (good_bit n p ≡ true)
     tests = finish_tests bytes n p there
 
-    pub not-given : 8 * slice < k → 13 ≡ refusal_of bytes n p m j slice k
+    pub not_given : 8 * slice < k → 13 ≡ refusal_of bytes n p m j slice k
     unfolding refusal_of first
-    not-given g = rw (tests.0, tests.1, lt-leb k (8 * slice) g)
+    not_given g = rw (tests.0, tests.1, lt-leb k (8 * slice) g)
 
-    pub not-fine : {r : ℕ} → k ≤ 8 * slice → r ≡ check_of m j k → (r ≡ 0 → ⊥) → r ≡ refusal_of bytes n p m j slice k
+    pub not_fine : {r : ℕ} → k ≤ 8 * slice → r ≡ check_of m j k → (r ≡ 0 → ⊥) → r ≡ refusal_of bytes n p m j slice k
     unfolding refusal_of first
-    not-fine g e z = rw (tests.0, tests.1, le-leb k (8 * slice) g) (e ∙ sym (first-here (check_of m j k) last (λ y. z (e ∙ y))))
+    not_fine g e z = rw (tests.0, tests.1, le-leb k (8 * slice) g) (e ∙ sym (first-here (check_of m j k) last (λ y. z (e ∙ y))))
 
-    pub by-room : k ≤ 8 * slice → check_of m j k ≡ 0 → refusal_of bytes n p m j slice k ≡ unless (leb (m + k) (n - p)) 2
+    pub by_room : k ≤ 8 * slice → check_of m j k ≡ 0 → refusal_of bytes n p m j slice k ≡ unless (leb (m + k) (n - p)) 2
     unfolding refusal_of first
-    by-room g e = rw (tests.0, tests.1, le-leb k (8 * slice) g) (first_skip (check_of m j k) last e ∙ first_last _)
+    by_room g e = rw (tests.0, tests.1, le-leb k (8 * slice) g) (first_skip (check_of m j k) last e ∙ first_last _)

@@ -5,7 +5,7 @@ use Rattle.tetra_core.specs.declared.refusal.Refusal.{Refusal}
 use Rattle.block_rules.specs.Codec.{HeaderWriter}
 use Rattle.block_rules.specs.Read.{Reading}
 use Rattle.block_rules.specs.Walk.{Pdu, Step}
-use Rattle.block_rules.specs.Writer.{Writer, finish_refusal, finish_to, Add, add_refusal, addTo}
+use Rattle.block_rules.specs.Writer.{Writer, finish_refusal, finish_to, Add, add_refusal, add_to}
 use Rattle.block_rules.specs.Downlink.{DownlinkHeader}
 use Rattle.mac_block.specs.declared.reader.PduEnd.{PduEnd}
 use Rattle.mac_block.specs.declared.reader.BlockEntry.{BlockEntry}
@@ -43,4 +43,4 @@ unfoldable pub finish_answer : (n : ℕ) → Writer → Written
 finish_answer n w = answer_of (finish_refusal (length w.bytes) n w.bit) (finish_to n w)
 
 unfoldable pub add_answer : {A : Type 0} → HeaderWriter A → (n : ℕ) → Writer → Add A → Written
-add_answer W n w a = answer_of (add_refusal W (length w.bytes) n w.bit a.header (length a.content) a.bits) (addTo W n w a)
+add_answer W n w a = answer_of (add_refusal W (length w.bytes) n w.bit a.header (length a.content) a.bits) (add_to W n w a)

@@ -6,7 +6,7 @@ ghost use Rattle.tetra_core.specs.BitBuffer.{outcome};
 ghost use Rattle.codec.specs.Encoded.{size_of, bits_with, Settable};
 ghost use Rattle.block_rules.specs.Numbers.{most_bits};
 ghost use Rattle.block_rules.specs.Ending.{length_of, pdu_size};
-ghost use Rattle.block_rules.specs.Writer.{good_bit, writer_at, finish_bits, finish_refusal, finish_to, check_of, refusal_of, pdu_bits, addCheck, add_of, addTo};
+ghost use Rattle.block_rules.specs.Writer.{good_bit, writer_at, finish_bits, finish_refusal, finish_to, check_of, refusal_of, pdu_bits, add_check, add_of, add_to};
 ghost use Rattle.block_rules.specs.Downlink.{ending_of, downlink_writer};
 ghost use Rattle.mac_block.specs.Answers.{finish_answer, add_answer};
 ghost use Rattle.mac_block.specs.Added.{most_header_bits, PuttablePdu, encoded_to, encoded_answer};
@@ -125,7 +125,7 @@ fn check_sized(header_bits: usize, number: u8, content_bits: usize) -> u8
 
 // Why a PDU with so many bits of content is not added to any block, or 0.
 pub fn add_check(pdu: ResourceToAdd, content_bits: usize) -> u8
-    ensures { result ≡ addCheck downlink_writer pdu content_bits }
+    ensures { result ≡ add_check downlink_writer pdu content_bits }
 {
     let header = pdu.header;
     let e = resource::encode_to_add(header);
@@ -272,7 +272,7 @@ pub fn add(
     content: &[u8],
     content_bits: usize,
 ) -> Written
-    ensures { (result ≡ add_answer downlink_writer bits (writer_at block.old bit) (add_of pdu content.now content_bits)) × (block.new ≡ (addTo downlink_writer bits (writer_at block.old bit) (add_of pdu content.now content_bits)).bytes) }
+    ensures { (result ≡ add_answer downlink_writer bits (writer_at block.old bit) (add_of pdu content.now content_bits)) × (block.new ≡ (add_to downlink_writer bits (writer_at block.old bit) (add_of pdu content.now content_bits)).bytes) }
 {
     let header = pdu.header;
     let indication = pdu.indication;

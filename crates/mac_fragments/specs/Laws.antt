@@ -8,11 +8,11 @@
 -- MacEnd       mac_end-length          its bits are as many as header_len counts; mac_end-bounds: 13 to 48
 --              mac_end-front           their first 11 say type 1, subtype 1 and the length given
 --              add-told                what is known of a header that an add does not refuse; told: of one that is written alone
---              mac-end-back            what was written is read back in its normal form, whatever follows; mac_end-fill: with its fill flag
+--              mac_end-back            what was written is read back in its normal form, whatever follows; mac_end-fill: with its fill flag
 --              mac_end-written-back    the same in bytes
 --              mac_end-inside          a header that is read ends inside the bits that it is read from
 --              mac_end-again           what is read, written again, gives the bits that were read
--- Encoded      mac_frag_encodes        the parts of a MAC-FRAG are the header on its way out; mac-end-encodes: those of a MAC-END
+-- Encoded      mac_frag_encodes        the parts of a MAC-FRAG are the header on its way out; mac_end-encodes: those of a MAC-END
 -- TypeAndFill                          what the two begin with
 pub mod TypeAndFill
 pub mod MacFrag

@@ -68,21 +68,21 @@ header-small (DownlinkDefinedUplinkAssignedOnly u f) = lit< tt
 header-small (DownlinkDefinedUplinkDefined u w) = lit< tt
 
 module _ (a : AccessAssign) (e : access_assign_refusal a ≡ 0) where
-  pub access-assign-fits : RowFits (access_assign_row a)
+  pub access_assign_fits : RowFits (access_assign_row a)
   unfolding access_assign_row
-  access-assign-fits = (header-small a, ((fields_back a e).one, ((fields_back a e).two, tt)))
+  access_assign_fits = (header-small a, ((fields_back a e).one, ((fields_back a e).two, tt)))
 
   -- whatever follows its bits
-  pub access-assign-back : (rest : List Bool) (o : ℕ) → parse read_access_assign (row_bits (access_assign_row a) ++ rest) o ≡ got a rest (o + assign_size)
+  pub access_assign_back : (rest : List Bool) (o : ℕ) → parse read_access_assign (row_bits (access_assign_row a) ++ rest) o ≡ got a rest (o + assign_size)
   unfolding read_access_assign access_assign_row
-  access-assign-back rest o = rw (parse_row_lem read_access_assign (access_assign_row a) 0 rest o access-assign-fits) ((fields_back a e).back _ _ _)
+  access_assign_back rest o = rw (parse_row_lem read_access_assign (access_assign_row a) 0 rest o access_assign_fits) ((fields_back a e).back _ _ _)
 
 -- in bytes: what to_bitbuf wrote, from_bitbuf reads at the same cursor
 pub access_assign_written-back : (s : List ℕ) (c : Cursor) (a : AccessAssign) → refusal_at (length s) c (access_assign_refusal a) assign_size ≡ 0
     → access_assign_at (access_assign_written s c a) c ≡ record { cursor = moved c assign_size; answer = AccessAssignAnswer.Read a }
 unfolding access_assign_at
 access_assign_written-back s c a e =
-    written_back read_access_assign (λ c' a'. record { cursor = c'; answer = a' }) AccessAssignAnswer.Read AccessAssignAnswer.Refused s c (access_assign_refusal a) _ (access_assign_length a) (λ rest. access-assign-back a (free _ _ _ _ e).value rest 0) e
+    written_back read_access_assign (λ c' a'. record { cursor = c'; answer = a' }) AccessAssignAnswer.Read AccessAssignAnswer.Refused s c (access_assign_refusal a) _ (access_assign_length a) (λ rest. access_assign_back a (free _ _ _ _ e).value rest 0) e
 
 -- ---- what is read is written again
 
@@ -140,7 +140,7 @@ access_assign_again bs o {a} {r} {n} e = go (leb 14 (length bs)) refl
         let g = fields-again (x / 4096 % 4) (x / 64 % 64) (x % 64) (o + 8) (drop 14 bs) (o + 14) (omega arith) (omega arith) (omega arith) f in
         let i = g.0 in
         let sum : x / 4096 % 4 * 4096 + (x / 64 % 64 * 64 + x % 64) ≡ x = omega arith in
-        let row = (row_is (access_assign_row a) (access-assign-fits a i.free)).bits in
+        let row = (row_is (access_assign_row a) (access_assign_fits a i.free)).bits in
         (i.free, g.1, sym row ∙ rw (i.header, i.one, i.two, sum) w)
 
 splice-same : (bs : List Bool) (p n : ℕ) → length (take n (drop p bs)) ≡ n → splice p (take n (drop p bs)) bs ≡ bs

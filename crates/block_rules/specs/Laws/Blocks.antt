@@ -17,7 +17,7 @@ use Rattle.block_rules.specs.Numbers.{most_bits}
 use Rattle.block_rules.specs.declared.extent.Extent.{Extent}
 use Rattle.block_rules.specs.Extent.{extent}
 use Rattle.block_rules.specs.Codec.{HeaderReader}
-use Rattle.block_rules.specs.Walk.{good_block, Entry, sizeIn, ownBits, step_of, pduOf, firstPdu, stepAt, step, walkBy, walkFrom}
+use Rattle.block_rules.specs.Walk.{good_block, Entry, size_in, own_bits, step_of, pdu_of, first_pdu, step_at, step, walk_by, walk_from}
 use Rattle.block_rules.specs.Altered.{bit_at}
 use Rattle.block_rules.specs.Demand3.{IsBlock}
 use Rattle.block_rules.specs.Laws.Walks.{from}
@@ -72,19 +72,19 @@ module _ {n : ℕ} {v : List ℕ} (holds : IsBlock n v) where
   pub length-block : length (block n v) ≡ n
   length-block = length_bits_at v 0 n (omega arith)
 
-  pub step_block : {H : Type 0} (R : HeaderReader H) (p : ℕ) → step R v n p ≡ stepAt R (block n v) p
+  pub step_block : {H : Type 0} (R : HeaderReader H) (p : ℕ) → step R v n p ≡ step_at R (block n v) p
   unfolding step
   step_block R p = rw good-block
 
-  pub walk_block : {H : Type 0} (R : HeaderReader H) (p : ℕ) → walkFrom R v n p ≡ from R (block n v) p
-  unfolding walkFrom from
-  walk_block R p = rw length-block (ap (λ f. walkBy f (suc n) p) (fun_ext (step_block R)))
+  pub walk_block : {H : Type 0} (R : HeaderReader H) (p : ℕ) → walk_from R v n p ≡ from R (block n v) p
+  unfolding walk_from from
+  walk_block R p = rw length-block (ap (λ f. walk_by f (suc n) p) (fun_ext (step_block R)))
 
   -- a step, by the extent there
-  pub step-there : {H : Type 0} (R : HeaderReader H) (p : ℕ) {x : Extent} → p ≤ n → x ≡ extent (bits_at v p (n - p))
-      → step R v n p ≡ step_of p (pduOf R (bits_at v p (n - p)) x)
-  unfolding stepAt firstPdu
-  step-there R p h e =
+  pub step_there : {H : Type 0} (R : HeaderReader H) (p : ℕ) {x : Extent} → p ≤ n → x ≡ extent (bits_at v p (n - p))
+      → step R v n p ≡ step_of p (pdu_of R (bits_at v p (n - p)) x)
+  unfolding step_at first_pdu
+  step_there R p h e =
       rw (step_block R p, le-leb p (length (block n v)) (rw length-block h), behind-part v 0 n p (omega arith) h, zero-add, e)
 
   -- a part of the bytes inside the block
@@ -92,9 +92,9 @@ module _ {n : ℕ} {v : List ℕ} (holds : IsBlock n v) where
   unfolding bits_at
   part-block p m h = sym (part-take p m n (bits_of v) h)
 
-  pub own_block : {H : Type 0} (e : Entry H) → e.bit + sizeIn n e ≤ n → ownBits n v e ≡ own_in (block n v) e
-  unfolding ownBits
-  own_block e h = rw length-block (part-block e.bit (sizeIn n e) h)
+  pub own_block : {H : Type 0} (e : Entry H) → e.bit + size_in n e ≤ n → own_bits n v e ≡ own_in (block n v) e
+  unfolding own_bits
+  own_block e h = rw length-block (part-block e.bit (size_in n e) h)
 
 -- ---- bits put at a place
 

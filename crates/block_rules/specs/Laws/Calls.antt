@@ -15,13 +15,13 @@ use Rattle.bits.specs.Laws.Writes.{length-put_bits, bytes-put_bits, put_bits-nil
 use Rattle.block_rules.specs.Numbers.{least_bits}
 use Rattle.block_rules.specs.Codec.{HeaderWriter, Codec, Laws}
 use Rattle.block_rules.specs.Ending.{Ending, pdu_size}
-use Rattle.block_rules.specs.Writer.{fill_bits, finish_bits, good_bit, Writer, after, finished, finish_to, Add, total, total_of, size_of, refusal_of, addCheck, add_refusal, addedBits, added, addTo}
-use Rattle.block_rules.specs.Run.{Call, Item, item_at, ifAccepted, perform, refusal, run, accepted}
+use Rattle.block_rules.specs.Writer.{fill_bits, finish_bits, good_bit, Writer, after, finished, finish_to, Add, total, total_of, size_of, refusal_of, add_check, add_refusal, added_bits, added, add_to}
+use Rattle.block_rules.specs.Run.{Call, Item, item_at, if_accepted, perform, refusal, run, accepted}
 use Rattle.block_rules.specs.Altered.{bit_at}
 use Rattle.block_rules.specs.Demand3.{IsBlock}
 use Rattle.block_rules.specs.Laws.Blocks.{good-block, put-outside}
 use Rattle.block_rules.specs.Laws.Refusals.{Placed, placed, good-bit, finish-free, finish_accepted, check-free, Free, free}
-use Rattle.block_rules.specs.Laws.WrittenBack.{enough, length-added, length-finish}
+use Rattle.block_rules.specs.Laws.WrittenBack.{enough, length_added, length-finish}
 
 -- ---- a number that refuses, and 0
 
@@ -40,35 +40,35 @@ unfolding after
 after_ind zero w w' P x y = y refl
 after_ind (suc j) w w' P x y = x
 
-if_accepted : {A : Type 0} (j : ℕ) (x : Item A) (xs : List (Item A)) → j ≡ 0 → ifAccepted j x xs ≡ x ∷ xs
-unfolding ifAccepted
-if_accepted zero x xs e = refl
-if_accepted (suc j) x xs e = absurd (omega arith)
+if_accepted_lem : {A : Type 0} (j : ℕ) (x : Item A) (xs : List (Item A)) → j ≡ 0 → if_accepted j x xs ≡ x ∷ xs
+unfolding if_accepted
+if_accepted_lem zero x xs e = refl
+if_accepted_lem (suc j) x xs e = absurd (omega arith)
 
-if_refused : {A : Type 0} (j : ℕ) (x : Item A) (xs : List (Item A)) → (j ≡ 0 → ⊥) → ifAccepted j x xs ≡ xs
-unfolding ifAccepted
+if_refused : {A : Type 0} (j : ℕ) (x : Item A) (xs : List (Item A)) → (j ≡ 0 → ⊥) → if_accepted j x xs ≡ xs
+unfolding if_accepted
 if_refused zero x xs h = absurd (h refl)
 if_refused (suc j) x xs h = refl
 
 module _ {A : Type 0} (W : HeaderWriter A) (n : ℕ) where
-  pub refused-call : (w : Writer) (c : Call A) → (refusal W n c w ≡ 0 → ⊥) → perform W n c w ≡ w
-  unfolding perform refusal addTo finish_to
-  refused-call w (Call.add a) e = after-refused _ w (added W n w a) e
-  refused-call w Call.finish e = after-refused _ w (finished n w) e
+  pub refused_call : (w : Writer) (c : Call A) → (refusal W n c w ≡ 0 → ⊥) → perform W n c w ≡ w
+  unfolding perform refusal add_to finish_to
+  refused_call w (Call.add a) e = after-refused _ w (added W n w a) e
+  refused_call w Call.finish e = after-refused _ w (finished n w) e
 
-  pub accepted-call : (w : Writer) (a : Add A) → refusal W n (Call.add a) w ≡ 0 → perform W n (Call.add a) w ≡ added W n w a
-  unfolding perform refusal addTo
-  accepted-call w a e = after-zero _ w (added W n w a) e
+  pub accepted_call : (w : Writer) (a : Add A) → refusal W n (Call.add a) w ≡ 0 → perform W n (Call.add a) w ≡ added W n w a
+  unfolding perform refusal add_to
+  accepted_call w a e = after-zero _ w (added W n w a) e
 
-  pub accepted-add : (a : Add A) (cs : List (Call A)) (w : Writer) → refusal W n (Call.add a) w ≡ 0
+  pub accepted_add : (a : Add A) (cs : List (Call A)) (w : Writer) → refusal W n (Call.add a) w ≡ 0
       → accepted W n (Call.add a ∷ cs) w ≡ item_at w.bit a ∷ accepted W n cs (added W n w a)
   unfolding accepted
-  accepted-add a cs w e = if_accepted _ _ _ e ∙ ap (λ u. item_at w.bit a ∷ accepted W n cs u) (accepted-call w a e)
+  accepted_add a cs w e = if_accepted_lem _ _ _ e ∙ ap (λ u. item_at w.bit a ∷ accepted W n cs u) (accepted_call w a e)
 
-  pub accepted-refused : (a : Add A) (cs : List (Call A)) (w : Writer) → (refusal W n (Call.add a) w ≡ 0 → ⊥)
+  pub accepted_refused : (a : Add A) (cs : List (Call A)) (w : Writer) → (refusal W n (Call.add a) w ≡ 0 → ⊥)
       → accepted W n (Call.add a ∷ cs) w ≡ accepted W n cs w
   unfolding accepted
-  accepted-refused a cs w e = if_refused _ _ _ e ∙ ap (accepted W n cs) (refused-call w (Call.add a) e)
+  accepted_refused a cs w e = if_refused _ _ _ e ∙ ap (accepted W n cs) (refused_call w (Call.add a) e)
 
 -- a third number counts only where the second is 0
 first_third : (a b c d : ℕ) → (b ≡ 0 → c ≡ d) → first (a ∷ b ∷ c ∷ []) ≡ first (a ∷ b ∷ d ∷ [])
@@ -94,14 +94,14 @@ module _ {A H : Type 0} (C : Codec A H) (L : Laws C) (n : ℕ) (w : Writer) (a :
   pub room : least_bits ≤ n - w.bit
   room = enough C L a.header (n - w.bit) (total_of C.writer a) f.fine (omega arith) f.small f.fits
 
-  pub added-place : Placed n (w.bit + size_of C.writer (n - w.bit) a)
-  added-place = next_place (C.writer.ending a.header) n w.bit (total_of C.writer a) room f.fits f.at
+  pub added_place : Placed n (w.bit + size_of C.writer (n - w.bit) a)
+  added_place = next_place (C.writer.ending a.header) n w.bit (total_of C.writer a) room f.fits f.at
 
   add-outside : (j : ℕ) → (j < w.bit) ⊎ ((added C.writer n w a).bit ≤ j) → bit_at (added C.writer n w a).bytes j ≡ bit_at w.bytes j
   unfolding added
   add-outside j out =
-      put-outside w.bytes w.bit (addedBits C.writer (n - w.bit) a) j
-      (omega (arith, length-added C L n w a f, added-place.inside, f.holds.inside)) (rw (length-added C L n w a f) out)
+      put-outside w.bytes w.bit (added_bits C.writer (n - w.bit) a) j
+      (omega (arith, length_added C L n w a f, added_place.inside, f.holds.inside)) (rw (length_added C L n w a f) out)
 
 finish-outside : (n : ℕ) (w : Writer) → IsBlock n w.bytes → Placed n w.bit → (j : ℕ) → (j < w.bit) ⊎ ((finished n w).bit ≤ j)
     → bit_at (finished n w).bytes j ≡ bit_at w.bytes j
@@ -137,53 +137,53 @@ finished-again n w f =
 
 -- what holds of the writer, and of what an accepted add or finish leaves, holds of what a call leaves
 module _ {A : Type 0} (W : HeaderWriter A) (n : ℕ) where
-  call-ind : (w : Writer) (P : Writer → Type 0) → P w → ((a : Add A) → Free W n w a → P (added W n w a))
+  call_ind : (w : Writer) (P : Writer → Type 0) → P w → ((a : Add A) → Free W n w a → P (added W n w a))
       → (IsBlock n w.bytes → Placed n w.bit → P (finished n w)) → (c : Call A) → P (perform W n c w)
-  unfolding perform refusal addTo finish_to
-  call-ind w P x y z (Call.add a) = after_ind _ w (added W n w a) P x (λ e. y a (free W n w a e))
-  call-ind w P x y z Call.finish = after_ind _ w (finished n w) P x (λ e. let f = finish-free n w e in z f.0 f.1)
+  unfolding perform refusal add_to finish_to
+  call_ind w P x y z (Call.add a) = after_ind _ w (added W n w a) P x (λ e. y a (free W n w a e))
+  call_ind w P x y z Call.finish = after_ind _ w (finished n w) P x (λ e. let f = finish-free n w e in z f.0 f.1)
 
-  pub same_length : (w : Writer) (c : Call A) → length (perform W n c w).bytes ≡ length w.bytes
+  pub same_length_lem : (w : Writer) (c : Call A) → length (perform W n c w).bytes ≡ length w.bytes
   unfolding added finished
-  same_length w =
-      call-ind w (λ u. length u.bytes ≡ length w.bytes) refl
+  same_length_lem w =
+      call_ind w (λ u. length u.bytes ≡ length w.bytes) refl
       (λ a f. length-put_bits w.bytes w.bit _) (λ _ _. length-put_bits w.bytes w.bit _)
 
   pub run_holds : (cs : List (Call A)) (w : Writer) → IsBlock n w.bytes → IsBlock n (run W n cs w).bytes
   unfolding run
   run_holds [] w holds = holds
-  run_holds (c ∷ cs) w holds = run_holds cs (perform W n c w) (record { limit = holds.limit; inside = rw (same_length w c) holds.inside })
+  run_holds (c ∷ cs) w holds = run_holds cs (perform W n c w) (record { limit = holds.limit; inside = rw (same_length_lem w c) holds.inside })
 
 module _ {A H : Type 0} (C : Codec A H) (L : Laws C) (n : ℕ) where
   pub untouched : (w : Writer) (c : Call A) (j : ℕ) → (j < w.bit) ⊎ ((perform C.writer n c w).bit ≤ j)
       → bit_at (perform C.writer n c w).bytes j ≡ bit_at w.bytes j
   untouched w =
-      call-ind C.writer n w (λ u. (j : ℕ) → (j < w.bit) ⊎ (u.bit ≤ j) → bit_at u.bytes j ≡ bit_at w.bytes j)
+      call_ind C.writer n w (λ u. (j : ℕ) → (j < w.bit) ⊎ (u.bit ≤ j) → bit_at u.bytes j ≡ bit_at w.bytes j)
       (λ j _. refl) (add-outside C L n w) (finish-outside n w)
 
   -- no add fits behind a finish
   full : (w : Writer) (a : Add A) → w.bit ≡ n → Free C.writer n w a → ⊥
   full w a e f = omega (arith, room C L n w a f)
 
-  call-finished : (w : Writer) → Finished n w → (c : Call A) → perform C.writer n c w ≡ w
-  call-finished w f = call-ind C.writer n w (λ u. u ≡ w) refl (λ a x. absurd (full w a f.at x)) (λ _ _. finished-again n w f)
+  call_finished : (w : Writer) → Finished n w → (c : Call A) → perform C.writer n c w ≡ w
+  call_finished w f = call_ind C.writer n w (λ u. u ≡ w) refl (λ a x. absurd (full w a f.at x)) (λ _ _. finished-again n w f)
 
-  pub run-finished : (cs : List (Call A)) (w : Writer) → Finished n w → run C.writer n cs w ≡ w
+  pub run_finished : (cs : List (Call A)) (w : Writer) → Finished n w → run C.writer n cs w ≡ w
   unfolding run
-  run-finished [] w f = refl
-  run-finished (c ∷ cs) w f = ap (run C.writer n cs) (call-finished w f c) ∙ run-finished cs w f
+  run_finished [] w f = refl
+  run_finished (c ∷ cs) w f = ap (run C.writer n cs) (call_finished w f c) ∙ run_finished cs w f
 
-  pub accepted-finished : (cs : List (Call A)) (w : Writer) → Finished n w → accepted C.writer n cs w ≡ []
+  pub accepted_finished : (cs : List (Call A)) (w : Writer) → Finished n w → accepted C.writer n cs w ≡ []
   unfolding accepted
-  accepted-finished [] w f = refl
-  accepted-finished (Call.add a ∷ cs) w f = accepted-refused C.writer n a cs w (λ e. full w a f.at (free C.writer n w a e)) ∙ accepted-finished cs w f
-  accepted-finished (Call.finish ∷ cs) w f = ap (accepted C.writer n cs) (call-finished w f Call.finish) ∙ accepted-finished cs w f
+  accepted_finished [] w f = refl
+  accepted_finished (Call.add a ∷ cs) w f = accepted_refused C.writer n a cs w (λ e. full w a f.at (free C.writer n w a e)) ∙ accepted_finished cs w f
+  accepted_finished (Call.finish ∷ cs) w f = ap (accepted C.writer n cs) (call_finished w f Call.finish) ∙ accepted_finished cs w f
 
-  pub after_finish : (w : Writer) → IsBlock n w.bytes → good_bit n w.bit ≡ true
+  pub after_finish_lem : (w : Writer) → IsBlock n w.bytes → good_bit n w.bit ≡ true
       → (cs : List (Call A)) → run C.writer n cs (finish_to n w) ≡ finish_to n w
-  after_finish w holds good cs = rw (finish_accepted n w holds (placed n w.bit good)) (run-finished cs (finished n w) (now_finished n w holds))
+  after_finish_lem w holds good cs = rw (finish_accepted n w holds (placed n w.bit good)) (run_finished cs (finished n w) (now_finished n w holds))
 
-  none-fits : (a : A) (k : ℕ) → addCheck C.writer a k ≡ 0 → n - n < total C.writer a k
+  none-fits : (a : A) (k : ℕ) → add_check C.writer a k ≡ 0 → n - n < total C.writer a k
   none-fits a k e =
       let c = check-free C.writer a k e in
       elim (dec_le (total C.writer a k) (n - n)) [
@@ -192,9 +192,9 @@ module _ {A H : Type 0} (C : Codec A H) (L : Laws C) (n : ℕ) where
       ]
 
   pub add-after-finish : (v : List ℕ) → IsBlock n v → (a : A) (slice k : ℕ)
-      → add_refusal C.writer (length v) n n a slice k ≡ first (unless (leb k (8 * slice)) 13 ∷ addCheck C.writer a k ∷ 2 ∷ [])
-  unfolding add_refusal refusal_of addCheck first
+      → add_refusal C.writer (length v) n n a slice k ≡ first (unless (leb k (8 * slice)) 13 ∷ add_check C.writer a k ∷ 2 ∷ [])
+  unfolding add_refusal refusal_of add_check first
   add-after-finish v holds a slice k =
       rw (good-block holds, good-bit (record { inside = le_refl n; octet = inl refl }))
-      (first_third (unless (leb k (8 * slice)) 13) (addCheck C.writer a k) (unless (leb (total C.writer a k) (n - n)) 2) 2
+      (first_third (unless (leb k (8 * slice)) 13) (add_check C.writer a k) (unless (leb (total C.writer a k) (n - n)) 2) 2
       (λ e. rw (lt-leb (total C.writer a k) (n - n) (none-fits a k e))))

@@ -9,7 +9,7 @@ use Rattle.std.proofs.Math.Nat.{le_refl, suc_inj}
 use native.Mathlib.Omega.{arith}
 use Rattle.std.proofs.Math.ListN.{get_elem?}
 use Rattle.block_rules.specs.Numbers.{least_bits}
-use Rattle.block_rules.specs.Walk.{Entry, ownSize, sizeIn}
+use Rattle.block_rules.specs.Walk.{Entry, own_size, size_in}
 use Rattle.block_rules.specs.Demand3.{Covers}
 
 -- every entry of a list
@@ -34,35 +34,35 @@ none-same (x ∷ xs) (y ∷ ys) (suc k) e h = none-same xs ys k (suc_inj e) h
 -- a PDU at bit p or behind has 16 bits or more and ends in a block of n bits
 pub record Lies {H : Type 0} (n p : ℕ) (e : Entry H) : Type 0 where
   pub behind : p ≤ e.bit
-  pub long : least_bits ≤ sizeIn n e
-  pub within : e.bit + sizeIn n e ≤ n
+  pub long : least_bits ≤ size_in n e
+  pub within : e.bit + size_in n e ≤ n
 
 module _ {H : Type 0} (n : ℕ) where
-  start-in : {p r : ℕ} {es : List (Entry H)} → Covers n p es r → p ≤ n
-  start-in (Covers.end h k) = h
-  start-in (Covers.null h) = omega arith
-  start-in (Covers.unsized h) = omega arith
-  start-in (Covers.sized h c) = omega (arith, start-in c)
+  start_in : {p r : ℕ} {es : List (Entry H)} → Covers n p es r → p ≤ n
+  start_in (Covers.end h k) = h
+  start_in (Covers.null h) = omega arith
+  start_in (Covers.unsized h) = omega arith
+  start_in (Covers.sized h c) = omega (arith, start_in c)
 
   pub lies : {p r : ℕ} {es : List (Entry H)} → Covers n p es r → Each (Lies n p) es
-  unfolding ownSize
+  unfolding own_size
   lies (Covers.end h k) = each_nil _
   lies (Covers.null h) = each_cons _ _ [] (record { behind = le_refl _; long = le_refl _; within = h }) (each_nil _)
   lies (Covers.unsized h) = each_cons _ _ [] (record { behind = le_refl _; long = omega arith; within = omega arith }) (each_nil _)
   lies (Covers.sized {es = es} h c) =
-      each_cons _ _ es (record { behind = le_refl _; long = h; within = start-in c })
+      each_cons _ _ es (record { behind = le_refl _; long = h; within = start_in c })
       (λ k e x. let l = lies c k e x in record { behind = omega arith; long = l.long; within = l.within })
 
   -- each PDU begins where one before it ends, or behind
   pub apart : {p r : ℕ} {es : List (Entry H)} → Covers n p es r → (j k : ℕ) (d e : Entry H) → j < k
-      → get_elem? es j ≡ some d → get_elem? es k ≡ some e → d.bit + sizeIn n d ≤ e.bit
-  unfolding ownSize
+      → get_elem? es j ≡ some d → get_elem? es k ≡ some e → d.bit + size_in n d ≤ e.bit
+  unfolding own_size
   apart c j zero d e h x y = absurd (omega arith)
   apart (Covers.end _ _) j (suc k) d e h x y = absurd (none-ne-some e y)
   apart (Covers.null _) j (suc k) d e h x y = absurd (none-ne-some e y)
   apart (Covers.unsized _) j (suc k) d e h x y = absurd (none-ne-some e y)
   apart (Covers.sized _ c) zero (suc k) d e h x y =
-      subst (λ a. a.bit + sizeIn n a ≤ e.bit) (some-injective _ d x) (lies c k e y).behind
+      subst (λ a. a.bit + size_in n a ≤ e.bit) (some-injective _ d x) (lies c k e y).behind
   apart (Covers.sized _ c) (suc j) (suc k) d e h x y = apart c j k d e (omega arith) x y
 
   -- a walk has at most one entry for each 16 bits

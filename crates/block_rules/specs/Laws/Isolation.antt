@@ -10,8 +10,8 @@ use Rattle.std.proofs.Math.Seq.{get_or-drop}
 use Rattle.block_rules.specs.declared.extent.Extent.{Extent}
 use Rattle.block_rules.specs.Extent.{extent, Spared}
 use Rattle.block_rules.specs.Codec.{HeaderReader}
-use Rattle.block_rules.specs.Read.{readOwn, readPdu}
-use Rattle.block_rules.specs.Walk.{Pdu, Entry, place, endFrom, ownSize, Walk, goOn}
+use Rattle.block_rules.specs.Read.{read_own, read_pdu}
+use Rattle.block_rules.specs.Walk.{Pdu, Entry, place, end_from, own_size, Walk, go_on}
 use Rattle.block_rules.specs.Laws.Extents.{extent-spared}
 use Rattle.block_rules.specs.Laws.Walks.{from, entry_at, from_end, from-unsized, from_null, from-sized, walk-ind}
 use Rattle.block_rules.specs.Laws.Covering.{Each}
@@ -43,12 +43,12 @@ module _ {H : Type 0} (R : HeaderReader H) (b b' : List Bool) (len : length b' �
 
   -- an entry at p before walks that are alike
   alike-sized : (p s : ℕ) → Alike b b' (from R b (p + s)) (from R b' (p + s))
-      → Alike b b' (entry_at R b p (Pdu.sized s (readPdu R (drop p b) s))) (entry_at R b' p (Pdu.sized s (readPdu R (drop p b') s)))
-  unfolding place endFrom ownSize readPdu goOn
+      → Alike b b' (entry_at R b p (Pdu.sized s (read_pdu R (drop p b) s))) (entry_at R b' p (Pdu.sized s (read_pdu R (drop p b') s)))
+  unfolding place end_from own_size read_pdu go_on
   alike-sized p s a = record { places = ap (λ l. (p, some (p + s)) ∷ l) a.places; rest = a.rest; same = go }
     where
       head : List Bool → Entry H
-      head own = record { bit = p; pdu = Pdu.sized s (readOwn R own) }
+      head own = record { bit = p; pdu = Pdu.sized s (read_own R own) }
 
       go : (k : ℕ) (e : Entry H) → get_elem? (head (take s (drop p b)) ∷ (from R b (p + s)).entries) k ≡ some e → own_in b' e ≡ own_in b e
           → get_elem? (head (take s (drop p b')) ∷ (from R b' (p + s)).entries) k ≡ some e
@@ -59,7 +59,7 @@ module _ {H : Type 0} (R : HeaderReader H) (b b' : List Bool) (len : length b' �
       go (suc k) e x y = a.same k e x y
 
   pub alike : (p : ℕ) → p ≤ length b → Kept (from R b p) → Alike b b' (from R b p) (from R b' p)
-  unfolding goOn
+  unfolding go_on
   alike =
       walk-ind R b (λ p w. Kept w → Alike b b' w (from R b' p))
       (λ p h k _. alike_same b b' _ _ (from_end R b' p (omega arith) (omega arith)))

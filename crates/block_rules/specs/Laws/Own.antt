@@ -12,8 +12,8 @@ use Rattle.block_rules.specs.Numbers.{least_bits}
 use Rattle.block_rules.specs.declared.extent.Extent.{Extent}
 use Rattle.block_rules.specs.Extent.{extent}
 use Rattle.block_rules.specs.Codec.{HeaderReader, Inside}
-use Rattle.block_rules.specs.Read.{Reading, before_last_one, behindHeader, readOwn, readPdu}
-use Rattle.block_rules.specs.Walk.{Pdu, Entry, ownSize, sizeIn, pduOf, firstPdu, goOn}
+use Rattle.block_rules.specs.Read.{Reading, before_last_one, behind_header, read_own, read_pdu}
+use Rattle.block_rules.specs.Walk.{Pdu, Entry, own_size, size_in, pdu_of, first_pdu, go_on}
 use Rattle.block_rules.specs.Laws.Lists.{before_starts}
 use Rattle.block_rules.specs.Laws.Extents.{extent-null, extent-sized}
 use Rattle.block_rules.specs.Laws.Walks.{from, walk-ind}
@@ -21,33 +21,33 @@ use Rattle.block_rules.specs.Laws.Covering.{Each, each_nil, each_cons}
 
 -- the bits of a PDU of the block b
 abbrev pub own_in : {H : Type 0} → List Bool → Entry H → List Bool
-own_in b e = take (sizeIn (length b) e) (drop e.bit b)
+own_in b e = take (size_in (length b) e) (drop e.bit b)
 
 module _ {H : Type 0} (R : HeaderReader H) where
-  first_by : (bits : List Bool) (f : Extent) → extent bits ≡ f → firstPdu R bits ≡ pduOf R bits f
-  unfolding firstPdu
-  first_by bits f e = ap (pduOf R bits) e
+  first_by : (bits : List Bool) (f : Extent) → extent bits ≡ f → first_pdu R bits ≡ pdu_of R bits f
+  unfolding first_pdu
+  first_by bits f e = ap (pdu_of R bits) e
 
-  first-null : (bits : List Bool) (l : ℕ) → extent bits ≡ Extent.Null l → firstPdu R (take least_bits bits) ≡ some (Pdu.null l)
-  unfolding pduOf
+  first-null : (bits : List Bool) (l : ℕ) → extent bits ≡ Extent.Null l → first_pdu R (take least_bits bits) ≡ some (Pdu.null l)
+  unfolding pdu_of
   first-null bits l e = first_by (take least_bits bits) (Extent.Null l) (extent-null bits l e)
 
-  first-unsized : (bits : List Bool) (j o : ℕ) → extent bits ≡ Extent.Unsized j o → firstPdu R (take (length bits) bits) ≡ some (Pdu.unsized j o)
-  unfolding pduOf
+  first-unsized : (bits : List Bool) (j o : ℕ) → extent bits ≡ Extent.Unsized j o → first_pdu R (take (length bits) bits) ≡ some (Pdu.unsized j o)
+  unfolding pdu_of
   first-unsized bits j o e = rw (take-length bits) (first_by bits (Extent.Unsized j o) e)
 
-  first-sized : (bits : List Bool) (s : ℕ) → extent bits ≡ Extent.Sized s → firstPdu R (take s bits) ≡ some (Pdu.sized s (readPdu R bits s))
-  unfolding pduOf readPdu
+  first-sized : (bits : List Bool) (s : ℕ) → extent bits ≡ Extent.Sized s → first_pdu R (take s bits) ≡ some (Pdu.sized s (read_pdu R bits s))
+  unfolding pdu_of read_pdu
   first-sized bits s e =
-      first_by (take s bits) (Extent.Sized s) (extent-sized bits s e) ∙ ap (λ w. some (Pdu.sized s (readOwn R w))) (take-take s s bits (le_refl s))
+      first_by (take s bits) (Extent.Sized s) (extent-sized bits s e) ∙ ap (λ w. some (Pdu.sized s (read_own R w))) (take-take s s bits (le_refl s))
 
   module _ (b : List Bool) where
     -- the PDU's bits alone give what the entry says
     unfoldable pub Alone : Entry H → Type 0
-    Alone e = firstPdu R (own_in b e) ≡ some e.pdu
+    Alone e = first_pdu R (own_in b e) ≡ some e.pdu
 
     pub alone : (p : ℕ) → p ≤ length b → Each Alone (from R b p).entries
-    unfolding Alone ownSize goOn
+    unfolding Alone own_size go_on
     alone =
         walk-ind R b (λ p w. Each Alone w.entries)
         (λ p h k. each_nil Alone)
@@ -68,25 +68,25 @@ module _ {H : Type 0} where
   PartsOf bits (Pdu.sized s r) = Parts s bits r
   PartsOf bits (Pdu.unsized j o) = Unit {0}
 
-  parts-behind : (bits : List Bool) (h : H) (m : ℕ) (f : Bool) → m ≤ length bits → Parts (length bits) bits (behindHeader h m f (drop m bits))
-  unfolding Parts behindHeader
+  parts-behind : (bits : List Bool) (h : H) (m : ℕ) (f : Bool) → m ≤ length bits → Parts (length bits) bits (behind_header h m f (drop m bits))
+  unfolding Parts behind_header
   parts-behind bits h m false k = (omega (arith, length-drop m bits), take-length (drop m bits))
   parts-behind bits h m true k = go (before_last_one (drop m bits)) refl
     where
-      go : (o : Option (List Bool)) → before_last_one (drop m bits) ≡ o → Parts (length bits) bits (behindHeader h m true (drop m bits))
-      go (some c) e = let x = before_starts (drop m bits) c e in rw (e, behindHeader) (omega (arith, x.0, length-drop m bits), x.1)
-      go none e = rw (e, behindHeader) tt
+      go : (o : Option (List Bool)) → before_last_one (drop m bits) ≡ o → Parts (length bits) bits (behind_header h m true (drop m bits))
+      go (some c) e = let x = before_starts (drop m bits) c e in rw (e, behind_header) (omega (arith, x.0, length-drop m bits), x.1)
+      go none e = rw (e, behind_header) tt
 
   module _ (R : HeaderReader H) (inside : Inside R) where
-    parts-read : (bits : List Bool) → Parts (length bits) bits (readOwn R bits)
+    parts-read : (bits : List Bool) → Parts (length bits) bits (read_own R bits)
     parts-read bits = go (R.read_header bits) refl
       where
-        go : (o : Out H) → R.read_header bits ≡ o → Parts (length bits) bits (readOwn R bits)
-        go (Out.got h rest m) e = unfold readOwn in rw (e, readOwn) (parts-behind bits h m (R.fill_flag h) (inside bits h rest m e))
-        go (Out.refused j o) e = unfold readOwn Parts in rw (e, readOwn) tt
+        go : (o : Out H) → R.read_header bits ≡ o → Parts (length bits) bits (read_own R bits)
+        go (Out.got h rest m) e = unfold read_own in rw (e, read_own) (parts-behind bits h m (R.fill_flag h) (inside bits h rest m e))
+        go (Out.refused j o) e = unfold read_own Parts in rw (e, read_own) tt
 
     pub parts_in : (b : List Bool) (p : ℕ) → p ≤ length b → Each (λ (e : Entry H). PartsOf (own_in b e) e.pdu) (from R b p).entries
-    unfolding PartsOf ownSize readPdu goOn
+    unfolding PartsOf own_size read_pdu go_on
     parts_in b =
         walk-ind R b (λ p w. Each P w.entries)
         (λ p h k. each_nil P)

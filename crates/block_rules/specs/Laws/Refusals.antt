@@ -7,7 +7,7 @@ use Rattle.bits.specs.Laws.Reads.{length_bits_at}
 use Rattle.block_rules.specs.Numbers.{most_bits}
 use Rattle.block_rules.specs.Codec.{HeaderWriter}
 use Rattle.block_rules.specs.Walk.{good_block}
-use Rattle.block_rules.specs.Writer.{good_bit, Writer, after, finish_refusal, finished, finish_to, Add, content_of, total, total_of, check_of, refusal_of, addCheck, add_refusal}
+use Rattle.block_rules.specs.Writer.{good_bit, Writer, after, finish_refusal, finished, finish_to, Add, content_of, total, total_of, check_of, refusal_of, add_check, add_refusal}
 use Rattle.block_rules.specs.Run.{Call, refusal}
 use Rattle.block_rules.specs.Demand3.{IsBlock}
 use Rattle.block_rules.specs.Laws.Blocks.{both, held, good-block}
@@ -93,8 +93,8 @@ module _ (m j k : ℕ) where
       }
 
 module _ {A : Type 0} (W : HeaderWriter A) where
-  pub check-free : (a : A) (k : ℕ) → addCheck W a k ≡ 0 → (total W a k ≤ most_bits) × (W.check a ≡ 0)
-  unfolding addCheck
+  pub check-free : (a : A) (k : ℕ) → add_check W a k ≡ 0 → (total W a k ≤ most_bits) × (W.check a ≡ 0)
+  unfolding add_check
   check-free a k e = check-none (W.header_len a) (W.check a) k e
 
   pub record Free (n : ℕ) (w : Writer) (a : Add A) : Type 0 where

@@ -15,37 +15,37 @@ use Rattle.block_rules.specs.Numbers.{least_bits}
 use Rattle.block_rules.specs.declared.extent.Extent.{Extent}
 use Rattle.block_rules.specs.Extent.{extent}
 use Rattle.block_rules.specs.Codec.{HeaderReader, Codec, Laws}
-use Rattle.block_rules.specs.Read.{Reading, readOwn, readPdu}
-use Rattle.block_rules.specs.Walk.{Pdu, Entry, Walk, entriesThen, goOn, walk}
-use Rattle.block_rules.specs.Writer.{finish_bits, Writer, finished, Add, size_of, addedBits, added}
-use Rattle.block_rules.specs.Run.{Call, Item, start, holdsFinish, item_at, closing, asPdu, asEntry, perform, refusal, run, accepted, finishedAt, expected}
+use Rattle.block_rules.specs.Read.{Reading, read_own, read_pdu}
+use Rattle.block_rules.specs.Walk.{Pdu, Entry, Walk, entries_then, go_on, walk}
+use Rattle.block_rules.specs.Writer.{finish_bits, Writer, finished, Add, size_of, added_bits, added}
+use Rattle.block_rules.specs.Run.{Call, Item, start, holds_finish, item_at, closing, as_pdu, as_entry, perform, refusal, run, accepted, finished_at, expected}
 use Rattle.block_rules.specs.Demand3.{IsBlock}
 use Rattle.block_rules.specs.Laws.Lists.{cond_ind}
 use Rattle.block_rules.specs.Laws.Walks.{from, from_end, from_null, from-sized}
 use Rattle.block_rules.specs.Laws.Blocks.{block, length-block, walk_block, put-block}
 use Rattle.block_rules.specs.Laws.Refusals.{Placed, finish_accepted, Free, free}
-use Rattle.block_rules.specs.Laws.WrittenBack.{length-added, read-added, extent-added, length-finish, extent-finish}
-use Rattle.block_rules.specs.Laws.Calls.{refused-call, accepted-call, accepted-add, accepted-refused, added-place, holds-put, now_finished, run-finished, accepted-finished}
+use Rattle.block_rules.specs.Laws.WrittenBack.{length_added, read_added, extent_added, length-finish, extent-finish}
+use Rattle.block_rules.specs.Laws.Calls.{refused_call, accepted_call, accepted_add, accepted_refused, added_place, holds-put, now_finished, run_finished, accepted_finished}
 
 module _ {H : Type 0} (R : HeaderReader H) where
   -- the walk of any block with the first p bits of b gives es, and goes on at p
   unfoldable pub Gives : List Bool → ℕ → List (Entry H) → Type 0
-  Gives b p es = (d : List Bool) → length d ≡ length b → take p d ≡ take p b → from R d 0 ≡ entriesThen es (from R d p)
+  Gives b p es = (d : List Bool) → length d ≡ length b → take p d ≡ take p b → from R d 0 ≡ entries_then es (from R d p)
 
   gives_none : (b : List Bool) → Gives b 0 []
   unfolding Gives
   gives_none b d e f = refl
 
-  then_append : (es fs : List (Entry H)) (w : Walk H) → entriesThen es (entriesThen fs w) ≡ entriesThen (es ++ fs) w
+  then_append : (es fs : List (Entry H)) (w : Walk H) → entries_then es (entries_then fs w) ≡ entries_then (es ++ fs) w
   then_append es fs w = ap (λ l. record { entries = l; rest_at = w.rest_at }) (sym (append_assoc es fs w.entries))
 
   -- a PDU of s bits is put at p; whatever stands behind it, it ends there and reads as r
-  gives-put : (b : List Bool) (p : ℕ) (xs : List Bool) (s : ℕ) (r : Reading H) → p + s ≤ length b → length xs ≡ s
-      → ((t : List Bool) → length (xs ++ t) ≡ length b - p → extent (xs ++ t) ≡ Extent.Sized s) → readOwn R xs ≡ r
+  gives_put : (b : List Bool) (p : ℕ) (xs : List Bool) (s : ℕ) (r : Reading H) → p + s ≤ length b → length xs ≡ s
+      → ((t : List Bool) → length (xs ++ t) ≡ length b - p → extent (xs ++ t) ≡ Extent.Sized s) → read_own R xs ≡ r
       → (es : List (Entry H)) → Gives b p es → Gives (splice p xs b) (p + s) (es ++ (record { bit = p; pdu = Pdu.sized s r } ∷ []))
-  unfolding Gives readPdu goOn
-  gives-put b p xs s r in_b len fr rd es g d ld td =
-      g d same front ∙ ap (entriesThen es) (from-sized R d p s (omega (arith, same)) ends ∙ ap (λ q. entriesThen (entry q) (from R d (p + s))) read)
+  unfolding Gives read_pdu go_on
+  gives_put b p xs s r in_b len fr rd es g d ld td =
+      g d same front ∙ ap (entries_then es) (from-sized R d p s (omega (arith, same)) ends ∙ ap (λ q. entries_then (entry q) (from R d (p + s))) read)
       ∙ then_append es (entry r) (from R d (p + s))
     where
       entry : Reading H → List (Entry H)
@@ -70,23 +70,23 @@ module _ {H : Type 0} (R : HeaderReader H) where
       ends : extent (drop p d) ≡ Extent.Sized s
       ends = rw whole (fr (drop s (drop p d)) (sym (ap length whole) ∙ length-drop p d ∙ ap (λ x. x - p) same))
 
-      read : readPdu R (drop p d) s ≡ r
-      read = ap (readOwn R) pdu ∙ rd
+      read : read_pdu R (drop p d) s ≡ r
+      read = ap (read_own R) pdu ∙ rd
 
   -- ---- a finish
 
   closed : (n : ℕ) (b : List Bool) (p : ℕ) → length b ≡ n → p ≤ n → drop p b ≡ finish_bits (n - p) → from R b p ≡ closing n p
-  unfolding closing goOn
+  unfolding closing go_on
   closed n b p len h e =
       cond_ind (λ w. from R b p ≡ w) (ltb (n - p) least_bits) _ _
       (λ t. from_end R b p (omega arith) (omega (arith, ltb-true (n - p) least_bits t)))
       (λ t. from_null R b p 2 (omega arith) (rw e (extent-finish (n - p) (ltb-false (n - p) least_bits t))))
 
-  gives-finish : (n : ℕ) (b : List Bool) (p : ℕ) (es : List (Entry H)) → length b ≡ n → p ≤ n → Gives b p es
-      → from R (splice p (finish_bits (n - p)) b) 0 ≡ entriesThen es (closing n p)
+  gives_finish : (n : ℕ) (b : List Bool) (p : ℕ) (es : List (Entry H)) → length b ≡ n → p ≤ n → Gives b p es
+      → from R (splice p (finish_bits (n - p)) b) 0 ≡ entries_then es (closing n p)
   unfolding Gives
-  gives-finish n b p es len h g =
-      g (splice p xs b) same (splice-before p xs b (omega arith)) ∙ ap (entriesThen es) (closed n (splice p xs b) p (same ∙ len) h tail)
+  gives_finish n b p es len h g =
+      g (splice p xs b) same (splice-before p xs b (omega arith)) ∙ ap (entries_then es) (closed n (splice p xs b) p (same ∙ len) h tail)
     where
       xs : List Bool
       xs = finish_bits (n - p)
@@ -108,79 +108,79 @@ module _ {H : Type 0} (R : HeaderReader H) where
     pub gives : Gives (block n w.bytes) w.bit es
 
 module _ {A H : Type 0} (C : Codec A H) (L : Laws C) (n : ℕ) where
-  state-add : (w : Writer) (es : List (Entry H)) (a : Add A) → Free C.writer n w a → State C.reader n w es
-      → State C.reader n (added C.writer n w a) (es ++ (asEntry C n (item_at w.bit a) ∷ []))
-  unfolding added asEntry asPdu
-  state-add w es a f st =
-      let xs : List Bool = addedBits C.writer (n - w.bit) a in
-      let ls : length xs ≡ size_of C.writer (n - w.bit) a = length-added C L n w a f in
-      let next : Placed n (w.bit + size_of C.writer (n - w.bit) a) = added-place C L n w a f in
+  state_add : (w : Writer) (es : List (Entry H)) (a : Add A) → Free C.writer n w a → State C.reader n w es
+      → State C.reader n (added C.writer n w a) (es ++ (as_entry C n (item_at w.bit a) ∷ []))
+  unfolding added as_entry as_pdu
+  state_add w es a f st =
+      let xs : List Bool = added_bits C.writer (n - w.bit) a in
+      let ls : length xs ≡ size_of C.writer (n - w.bit) a = length_added C L n w a f in
+      let next : Placed n (w.bit + size_of C.writer (n - w.bit) a) = added_place C L n w a f in
       let lb : length (block n w.bytes) ≡ n = length-block st.holds in
       record {
         holds = holds-put st.holds w.bit xs;
         at = next;
         gives =
             rw (put-block st.holds w.bit xs (omega arith), f.given)
-            (gives-put C.reader (block n w.bytes) w.bit xs (size_of C.writer (n - w.bit) a) _ (omega arith) ls
-            (λ t e. extent-added C L n w a f t (e ∙ ap (λ x. x - w.bit) lb)) (read-added C L n w a f) es st.gives);
+            (gives_put C.reader (block n w.bytes) w.bit xs (size_of C.writer (n - w.bit) a) _ (omega arith) ls
+            (λ t e. extent_added C L n w a f t (e ∙ ap (λ x. x - w.bit) lb)) (read_added C L n w a f) es st.gives);
       }
 
   -- the claim, from any state on: the walk gives es, these items, and the closing
   abbrev Claim : List (Call A) → Writer → List (Entry H) → List (Item A) → Type 0
-  Claim cs w es items = walk C.reader (run C.writer n cs w).bytes n ≡ entriesThen (es ++ map (asEntry C n) items) (closing n (finishedAt C.writer n cs w))
+  Claim cs w es items = walk C.reader (run C.writer n cs w).bytes n ≡ entries_then (es ++ map (as_entry C n) items) (closing n (finished_at C.writer n cs w))
 
   abbrev Reads : List (Call A) → Writer → List (Entry H) → Type 0
   Reads cs w es = Claim cs w es (accepted C.writer n cs w)
 
   -- behind a finish nothing changes and nothing is accepted
-  run-finish : (cs : List (Call A)) (w : Writer) → IsBlock n w.bytes → Placed n w.bit → run C.writer n (Call.finish ∷ cs) w ≡ finished n w
+  run_finish : (cs : List (Call A)) (w : Writer) → IsBlock n w.bytes → Placed n w.bit → run C.writer n (Call.finish ∷ cs) w ≡ finished n w
   unfolding run perform
-  run-finish cs w holds at = ap (run C.writer n cs) (finish_accepted n w holds at) ∙ run-finished C L n cs (finished n w) (now_finished n w holds)
+  run_finish cs w holds at = ap (run C.writer n cs) (finish_accepted n w holds at) ∙ run_finished C L n cs (finished n w) (now_finished n w holds)
 
-  accepted-finish : (cs : List (Call A)) (w : Writer) → IsBlock n w.bytes → Placed n w.bit → accepted C.writer n (Call.finish ∷ cs) w ≡ []
+  accepted_finish : (cs : List (Call A)) (w : Writer) → IsBlock n w.bytes → Placed n w.bit → accepted C.writer n (Call.finish ∷ cs) w ≡ []
   unfolding accepted perform
-  accepted-finish cs w holds at =
-      ap (accepted C.writer n cs) (finish_accepted n w holds at) ∙ accepted-finished C L n cs (finished n w) (now_finished n w holds)
+  accepted_finish cs w holds at =
+      ap (accepted C.writer n cs) (finish_accepted n w holds at) ∙ accepted_finished C L n cs (finished n w) (now_finished n w holds)
 
-  walk-finish : (w : Writer) (es : List (Entry H)) → State C.reader n w es → walk C.reader (finished n w).bytes n ≡ entriesThen es (closing n w.bit)
+  walk_finish : (w : Writer) (es : List (Entry H)) → State C.reader n w es → walk C.reader (finished n w).bytes n ≡ entries_then es (closing n w.bit)
   unfolding walk finished
-  walk-finish w es st =
+  walk_finish w es st =
       let xs : List Bool = finish_bits (n - w.bit) in
       walk_block (holds-put st.holds w.bit xs) C.reader 0
       ∙ rw (put-block st.holds w.bit xs (omega (arith, length-finish (n - w.bit), st.at.inside)))
-      (gives-finish C.reader n (block n w.bytes) w.bit es (length-block st.holds) st.at.inside st.gives)
+      (gives_finish C.reader n (block n w.bytes) w.bit es (length-block st.holds) st.at.inside st.gives)
 
   reads-finish : (cs : List (Call A)) (w : Writer) (es : List (Entry H)) → State C.reader n w es → Reads (Call.finish ∷ cs) w es
-  unfolding finishedAt
+  unfolding finished_at
   reads-finish cs w es st =
-      rw (run-finish cs w st.holds st.at, accepted-finish cs w st.holds st.at, append-nil es) (walk-finish w es st)
+      rw (run_finish cs w st.holds st.at, accepted_finish cs w st.holds st.at, append-nil es) (walk_finish w es st)
 
   reads-add : (a : Add A) (cs : List (Call A)) (w : Writer) (es : List (Entry H)) → State C.reader n w es
       → ((u : Writer) (fs : List (Entry H)) → State C.reader n u fs → Reads cs u fs) → Reads (Call.add a ∷ cs) w es
-  unfolding run finishedAt
+  unfolding run finished_at
   reads-add a cs w es st ih = elim (ℕ_discrete (refusal C.writer n (Call.add a) w) 0) [ yes e ↦ taken e | no e ↦ turned e ]
     where
       entry : List (Entry H)
-      entry = asEntry C n (item_at w.bit a) ∷ []
+      entry = as_entry C n (item_at w.bit a) ∷ []
 
       taken : refusal C.writer n (Call.add a) w ≡ 0 → Reads (Call.add a ∷ cs) w es
       taken e =
-          let r : Reads cs (added C.writer n w a) (es ++ entry) = ih (added C.writer n w a) (es ++ entry) (state-add w es a (free C.writer n w a e) st) in
-          subst₂ (λ u xs. Claim cs u es xs) (sym (accepted-call C.writer n w a e)) (sym (accepted-add C.writer n a cs w e))
-          (rw (append_assoc es entry (map (asEntry C n) (accepted C.writer n cs (added C.writer n w a)))) at r)
+          let r : Reads cs (added C.writer n w a) (es ++ entry) = ih (added C.writer n w a) (es ++ entry) (state_add w es a (free C.writer n w a e) st) in
+          subst₂ (λ u xs. Claim cs u es xs) (sym (accepted_call C.writer n w a e)) (sym (accepted_add C.writer n a cs w e))
+          (rw (append_assoc es entry (map (as_entry C n) (accepted C.writer n cs (added C.writer n w a)))) at r)
 
       turned : (refusal C.writer n (Call.add a) w ≡ 0 → ⊥) → Reads (Call.add a ∷ cs) w es
-      turned e = subst₂ (λ u xs. Claim cs u es xs) (sym (refused-call C.writer n w (Call.add a) e)) (sym (accepted-refused C.writer n a cs w e)) (ih w es st)
+      turned e = subst₂ (λ u xs. Claim cs u es xs) (sym (refused_call C.writer n w (Call.add a) e)) (sym (accepted_refused C.writer n a cs w e)) (ih w es st)
 
-  reads : (cs : List (Call A)) → holdsFinish cs ≡ true → (w : Writer) (es : List (Entry H)) → State C.reader n w es → Reads cs w es
-  unfolding holdsFinish
+  reads : (cs : List (Call A)) → holds_finish cs ≡ true → (w : Writer) (es : List (Entry H)) → State C.reader n w es → Reads cs w es
+  unfolding holds_finish
   reads [] t w es st = let z : ◌≡◌ {A = ℕ} 0 1 = cc in absurd (omega arith)
   reads (Call.finish ∷ cs) t w es st = reads-finish cs w es st
   reads (Call.add a ∷ cs) t w es st = reads-add a cs w es st (reads cs t)
 
   -- the walk of what a run left
-  pub run-reads : (v : List ℕ) → IsBlock n v → (cs : List (Call A)) → holdsFinish cs ≡ true
+  pub run_reads : (v : List ℕ) → IsBlock n v → (cs : List (Call A)) → holds_finish cs ≡ true
       → walk C.reader (run C.writer n cs (start v)).bytes n ≡ expected C n cs v
   unfolding expected
-  run-reads v holds cs t =
+  run_reads v holds cs t =
       reads cs t (start v) [] (record { holds = holds; at = record { inside = omega arith; octet = inr refl }; gives = gives_none C.reader (block n v) })

@@ -12,9 +12,9 @@ use Rattle.block_rules.specs.Numbers.{most_bits, least_bits, length_at, address_
 use Rattle.block_rules.specs.Extent.{field, counted_extent, extent_of, extent}
 use Rattle.block_rules.specs.Ending.{Ending, length_of, pdu_size}
 use Rattle.block_rules.specs.Codec.{Codec, Laws}
-use Rattle.block_rules.specs.Read.{Reading, behindHeader, readOwn}
-use Rattle.block_rules.specs.Writer.{flag_of, fill_bits, null_bits, finish_bits, Writer, Add, content_of, total_of, lengthIn, size_of, fill_of, addedBits}
-use Rattle.block_rules.specs.Run.{asRead}
+use Rattle.block_rules.specs.Read.{Reading, behind_header, read_own}
+use Rattle.block_rules.specs.Writer.{flag_of, fill_bits, null_bits, finish_bits, Writer, Add, content_of, total_of, length_in, size_of, fill_of, added_bits}
+use Rattle.block_rules.specs.Run.{as_read}
 use Rattle.block_rules.specs.Laws.Lists.{cond_ind, field-append, length-fill, before-fill}
 use Rattle.block_rules.specs.Laws.Extents.{Bounds, bounds}
 use Rattle.block_rules.specs.Laws.Refusals.{Free}
@@ -51,11 +51,11 @@ enough C L a left n fine lo hi fits =
     omega (arith, b.0, b.1, long)
 
 -- fill and its flag, behind content
-behind-fill : {H : Type 0} (h : H) (m : ℕ) (c : List Bool) (f : ℕ) → behindHeader h m (flag_of f) (c ++ fill_bits f) ≡ Reading.read h m c f
-unfolding behindHeader flag_of fill_bits
+behind-fill : {H : Type 0} (h : H) (m : ℕ) (c : List Bool) (f : ℕ) → behind_header h m (flag_of f) (c ++ fill_bits f) ≡ Reading.read h m c f
+unfolding behind_header flag_of fill_bits
 behind-fill h m c zero = ap (λ l. Reading.read h m l 0) (append-nil c)
 behind-fill h m c (suc f) =
-    rw (lt-ltb 0 (suc f) (omega arith), before-fill c f, behindHeader)
+    rw (lt-ltb 0 (suc f) (omega arith), before-fill c f, behind_header)
     (ap (Reading.read h m c) (omega (arith, length-append c (fill_bits (suc f)), length-fill (suc f))))
 
 module _ {A H : Type 0} (C : Codec A H) (L : Laws C) (n : ℕ) (w : Writer) (a : Add A) (free : Free C.writer n w a) where
@@ -66,7 +66,7 @@ module _ {A H : Type 0} (C : Codec A H) (L : Laws C) (n : ℕ) (w : Writer) (a :
   fill = fill_of C.writer left a
 
   abbrev l : ℕ
-  l = lengthIn C.writer a
+  l = length_in C.writer a
 
   abbrev head : List Bool
   head = C.writer.write_header a.header l (flag_of fill)
@@ -74,28 +74,28 @@ module _ {A H : Type 0} (C : Codec A H) (L : Laws C) (n : ℕ) (w : Writer) (a :
   abbrev body : List Bool
   body = content_of a ++ fill_bits fill
 
-  size_in : (total_of C.writer a ≤ size_of C.writer left a) × (size_of C.writer left a ≤ left)
-  size_in = size-bounds (C.writer.ending a.header) left (total_of C.writer a) free.fits
+  size_in_lem : (total_of C.writer a ≤ size_of C.writer left a) × (size_of C.writer left a ≤ left)
+  size_in_lem = size-bounds (C.writer.ending a.header) left (total_of C.writer a) free.fits
 
-  pub length-added : length (addedBits C.writer left a) ≡ size_of C.writer left a
-  unfolding addedBits
-  length-added = simp (length-append, length-fill, free.given, L.sized a.header l (flag_of fill) free.fine) (omega (arith, size_in))
+  pub length_added : length (added_bits C.writer left a) ≡ size_of C.writer left a
+  unfolding added_bits
+  length_added = simp (length-append, length-fill, free.given, L.sized a.header l (flag_of fill) free.fine) (omega (arith, size_in_lem))
 
-  pub read-added : readOwn C.reader (addedBits C.writer left a) ≡ asRead C a.header l (content_of a) fill
-  unfolding addedBits asRead readOwn
-  read-added =
+  pub read_added : read_own C.reader (added_bits C.writer left a) ≡ as_read C a.header l (content_of a) fill
+  unfolding added_bits as_read read_own
+  read_added =
       rw (
         L.back a.header (total_of C.writer a) (flag_of fill) free.fine free.small body,
-        readOwn,
+        read_own,
         L.flagged a.header l (flag_of fill) free.fine,
         drop_at head body (C.writer.header_len a.header) (L.sized a.header l (flag_of fill) free.fine),
       )
       (behind-fill (C.normal a.header l (flag_of fill)) (C.writer.header_len a.header) (content_of a) fill)
 
-  pub extent-added : (t : List Bool) → length (addedBits C.writer left a ++ t) ≡ left
-      → extent (addedBits C.writer left a ++ t) ≡ Extent.Sized (size_of C.writer left a)
-  unfolding addedBits
-  extent-added t e =
+  pub extent_added : (t : List Bool) → length (added_bits C.writer left a ++ t) ≡ left
+      → extent (added_bits C.writer left a ++ t) ≡ Extent.Sized (size_of C.writer left a)
+  unfolding added_bits
+  extent_added t e =
       rw (append_assoc head body t)
       (L.ends a.header left (total_of C.writer a) (flag_of fill) free.fine (omega arith) free.small free.fits (body ++ t)
       (rw (append_assoc head body t) at e))

@@ -12,12 +12,12 @@ use Rattle.mac_block.specs.declared.reader.StepAnswer.{StepAnswer}
 use Rattle.block_rules.specs.Numbers.{most_bits}
 use Rattle.block_rules.specs.Extent.{extent}
 use Rattle.block_rules.specs.Read.{Reading}
-use Rattle.block_rules.specs.Walk.{good_block, Pdu, Entry, Step, Walk, step_of, pduOf, stepAt, step, entriesThen, follow, goOn, walkBy, walkFrom}
+use Rattle.block_rules.specs.Walk.{good_block, Pdu, Entry, Step, Walk, step_of, pdu_of, step_at, step, entries_then, follow, go_on, walk_by, walk_from}
 use Rattle.block_rules.specs.Downlink.{DownlinkHeader, downlink_reader}
 use Rattle.mac_block.specs.Answers.{sized_entry, entry_of, step_answer}
 use Rattle.block_rules.specs.Demand3.{IsBlock}
 use Rattle.block_rules.specs.Laws.Extents.{Bounds, bounds}
-use Rattle.block_rules.specs.Laws.Blocks.{held, length-block, step-there}
+use Rattle.block_rules.specs.Laws.Blocks.{held, length-block, step_there}
 use Rattle.block_rules.specs.Laws.Demand3Downlink.{demand_3_of_blocks}
 use Rattle.block_walk.specs.declared.Position.{Position}
 use Rattle.block_walk.specs.declared.WalkStep.{WalkStep}
@@ -42,24 +42,24 @@ module _ (v : List ℕ) (n p : ℕ) where
   here = step downlink_reader v n p
 
   abbrev by : Extent → Step DownlinkHeader
-  by f = step_of p (pduOf downlink_reader (bits_at v p (n - p)) f)
+  by f = step_of p (pdu_of downlink_reader (bits_at v p (n - p)) f)
 
   no_block : good_block n (length v) ≡ false → here ≡ Step.refused 13 0
   unfolding step
   no_block bad = rw bad
 
   past-block : good_block n (length v) ≡ true → n < p → here ≡ Step.refused 13 0
-  unfolding step stepAt
+  unfolding step step_at
   past-block good h = rw (good, lt-leb p (length (bits_at v 0 n)) (omega (arith, length-block (held n v good))))
 
   -- what is so of a refused step, and of each step by its extent, is so of every step
-  by-extent : (P : Step DownlinkHeader → Type 0) → (here ≡ Step.refused 13 0 → P (Step.refused 13 0))
+  by_extent : (P : Step DownlinkHeader → Type 0) → (here ≡ Step.refused 13 0 → P (Step.refused 13 0))
       → (IsBlock n v → p ≤ n → (f : Extent) → Bounds (n - p) f → here ≡ by f → P (by f)) → P here
-  by-extent P out inside = go (good_block n (length v)) refl
+  by_extent P out inside = go (good_block n (length v)) refl
     where
       taken : IsBlock n v → p ≤ n → P here
       taken holds h =
-          let e = step-there holds downlink_reader p h refl in
+          let e = step_there holds downlink_reader p h refl in
           let l : length (bits_at v p (n - p)) ≡ n - p = length_bits_at v p (n - p) (omega arith) in
           rw e (inside holds h (extent (bits_at v p (n - p))) (rw l at (bounds (bits_at v p (n - p)))) e)
 
@@ -77,25 +77,25 @@ module _ (v : List ℕ) (n p : ℕ) where
   -- ---- the walk from a bit is its entry, and the walk from the position after it
 
   abbrev Goes : Step DownlinkHeader → Type 0
-  Goes s = walkFrom downlink_reader v n p ≡ entriesThen (given s) (walk_on v n (after p (step_answer s)))
+  Goes s = walk_from downlink_reader v n p ≡ entries_then (given s) (walk_on v n (after p (step_answer s)))
 
-  first_step : walkFrom downlink_reader v n p ≡ follow (walkBy (step downlink_reader v n) n) p here
-  unfolding walkFrom walkBy
+  first_step : walk_from downlink_reader v n p ≡ follow (walk_by (step downlink_reader v n) n) p here
+  unfolding walk_from walk_by
   first_step = refl
 
-  goes-refused : here ≡ Step.refused 13 0 → Goes (Step.refused 13 0)
+  goes_refused : here ≡ Step.refused 13 0 → Goes (Step.refused 13 0)
   unfolding given after walk_on step_answer follow
-  goes-refused e = first_step ∙ rw e
+  goes_refused e = first_step ∙ rw e
 
   goes_by : IsBlock n v → p ≤ n → (f : Extent) → Bounds (n - p) f → here ≡ by f → Goes (by f)
-  unfolding given after after_entry after_end walk_on step_answer entry_of follow goOn step_of pduOf
+  unfolding given after after_entry after_end walk_on step_answer entry_of follow go_on step_of pdu_of
   goes_by holds h Extent.End b e = demand_3_of_blocks.walks.steps n v holds p h ∙ rw e
   goes_by holds h (Extent.Unsized j o) b e = demand_3_of_blocks.walks.steps n v holds p h ∙ rw e
   goes_by holds h (Extent.Null l) b e = demand_3_of_blocks.walks.steps n v holds p h ∙ rw e
   goes_by holds h (Extent.Sized s) b e = demand_3_of_blocks.walks.steps n v holds p h ∙ rw (e, after-sized)
 
   pub goes : Goes here
-  goes = by-extent Goes goes-refused goes_by
+  goes = by_extent Goes goes_refused goes_by
 
   -- ---- a step that goes on goes further, and stays in the block
 
@@ -106,19 +106,19 @@ module _ (v : List ℕ) (n p : ℕ) where
   abbrev Leads : Step DownlinkHeader → Type 0
   Leads s = Further (after p (step_answer s))
 
-  leads-refused : here ≡ Step.refused 13 0 → Leads (Step.refused 13 0)
+  leads_refused : here ≡ Step.refused 13 0 → Leads (Step.refused 13 0)
   unfolding Further after step_answer
-  leads-refused e = tt
+  leads_refused e = tt
 
-  leads-by : IsBlock n v → p ≤ n → (f : Extent) → Bounds (n - p) f → here ≡ by f → Leads (by f)
-  unfolding Further after after_entry after_end step_answer entry_of step_of pduOf Bounds
-  leads-by holds h Extent.End b e = tt
-  leads-by holds h (Extent.Unsized j o) b e = tt
-  leads-by holds h (Extent.Null l) b e = tt
-  leads-by holds h (Extent.Sized s) b e = rw after-sized (omega (arith, b.0), omega (arith, b.1))
+  leads_by : IsBlock n v → p ≤ n → (f : Extent) → Bounds (n - p) f → here ≡ by f → Leads (by f)
+  unfolding Further after after_entry after_end step_answer entry_of step_of pdu_of Bounds
+  leads_by holds h Extent.End b e = tt
+  leads_by holds h (Extent.Unsized j o) b e = tt
+  leads_by holds h (Extent.Null l) b e = tt
+  leads_by holds h (Extent.Sized s) b e = rw after-sized (omega (arith, b.0), omega (arith, b.1))
 
   leads : Leads here
-  leads = by-extent Leads leads-refused leads-by
+  leads = by_extent Leads leads_refused leads_by
 
   -- ---- an entry begins in the block
 
@@ -131,15 +131,15 @@ module _ (v : List ℕ) (n p : ℕ) where
   unfolding Inside
   inside-refused e = tt
 
-  inside-by : IsBlock n v → p ≤ n → (f : Extent) → Bounds (n - p) f → here ≡ by f → Inside (by f)
-  unfolding Inside step_of pduOf
-  inside-by holds h Extent.End b e = tt
-  inside-by holds h (Extent.Unsized j o) b e = omega (arith, holds.limit)
-  inside-by holds h (Extent.Null l) b e = omega (arith, holds.limit)
-  inside-by holds h (Extent.Sized s) b e = omega (arith, holds.limit)
+  inside_by : IsBlock n v → p ≤ n → (f : Extent) → Bounds (n - p) f → here ≡ by f → Inside (by f)
+  unfolding Inside step_of pdu_of
+  inside_by holds h Extent.End b e = tt
+  inside_by holds h (Extent.Unsized j o) b e = omega (arith, holds.limit)
+  inside_by holds h (Extent.Null l) b e = omega (arith, holds.limit)
+  inside_by holds h (Extent.Sized s) b e = omega (arith, holds.limit)
 
   inside : Inside here
-  inside = by-extent Inside inside-refused inside-by
+  inside = by_extent Inside inside-refused inside_by
 
 fits : (p : ℕ) (x : Pdu DownlinkHeader) → p ≤ most_bits → NullFits (entry_of p x)
 unfolding NullFits entry_of sized_entry
@@ -165,7 +165,7 @@ given_from v n (Position.At p) = given (step downlink_reader v n p)
 given_from v n (Position.Ended q) = []
 
 -- "all steps from bit 0 to the end, each from the last one's PDU end"
-pub walk_on_lem : (v : List ℕ) (n : ℕ) (x : Position) → walk_on v n x ≡ entriesThen (given_from v n x) (walk_on v n (step_from v n x).position)
+pub walk_on_lem : (v : List ℕ) (n : ℕ) (x : Position) → walk_on v n x ≡ entries_then (given_from v n x) (walk_on v n (step_from v n x).position)
 unfolding walk_on given_from step_from
 walk_on_lem v n (Position.At p) = goes v n p
 walk_on_lem v n (Position.Ended q) = refl

@@ -111,9 +111,9 @@ len-refused r (suc j) n e h = rw e
 
 module _ (e : ChanAllocElement) (h : channel_allocation_refusal e ≡ 0) where
   -- what each check told
-  pub channel-allocation-told : (e.carrier_num < 4096) × (e.mon_pattern < 4) × (frame18_refusal e.mon_pattern e.frame18_mon_pattern ≡ 0) × (len_refusal e ≡ 0)
+  pub channel_allocation-told : (e.carrier_num < 4096) × (e.mon_pattern < 4) × (frame18_refusal e.mon_pattern e.frame18_mon_pattern ≡ 0) × (len_refusal e ≡ 0)
   unfolding channel_allocation_refusal
-  channel-allocation-told =
+  channel_allocation-told =
       let a = first-none (unless (ltb e.carrier_num 4096) 3) _ h in
       let b = first-none (unless (ltb e.mon_pattern 4) 3) _ a.1 in
       let c = first-none (frame18_refusal e.mon_pattern e.frame18_mon_pattern) _ b.1 in
@@ -122,7 +122,7 @@ module _ (e : ChanAllocElement) (h : channel_allocation_refusal e ≡ 0) where
   -- where it is written
   pub frame18-fits : e.mon_pattern ≡ 0 → (frame18_number e.frame18_mon_pattern < 4) × (Pattern (frame18_number e.frame18_mon_pattern) ≡ e.frame18_mon_pattern)
   unfolding frame18_refusal
-  frame18-fits z = pattern-back e.frame18_mon_pattern (rw (eq-eqb _ _ z) at channel-allocation-told.2)
+  frame18-fits z = pattern-back e.frame18_mon_pattern (rw (eq-eqb _ _ z) at channel_allocation-told.2)
 
   pub head_fits : RowFits (head_row e)
   unfolding head_row
@@ -132,21 +132,21 @@ module _ (e : ChanAllocElement) (h : channel_allocation_refusal e ≡ 0) where
       timeslots_lt e.ts_assigned,
       (
         (ul_dl_back e.ul_dl_assigned).0,
-        (digit_lt e.clch_permission, (digit_lt e.cell_change_flag, (channel-allocation-told.0, (lit< tt, tt)))),
+        (digit_lt e.clch_permission, (digit_lt e.cell_change_flag, (channel_allocation-told.0, (lit< tt, tt)))),
       ),
     ),
   )
 
   -- a write that is accepted has the length that is computed
-  pub channel-allocation-counted : compute_len e ≡ ChanAllocLen.Len (record { 0 = length (channel_allocation_bits e) })
+  pub channel_allocation-counted : compute_len e ≡ ChanAllocLen.Len (record { 0 = length (channel_allocation_bits e) })
   unfolding compute_len
-  channel-allocation-counted = rw (channel-allocation-told.3, channel_allocation-length e)
+  channel_allocation-counted = rw (channel_allocation-told.3, channel_allocation-length e)
 
   -- whatever follows its bits
-  pub channel-allocation-back : (rest : List Bool) (o : ℕ)
+  pub channel_allocation-back : (rest : List Bool) (o : ℕ)
       → parse read_channel_allocation (channel_allocation_bits e ++ rest) o ≡ got (normal_channel_allocation e) rest (o + channel_allocation_len e)
   unfolding read_channel_allocation read_mon_patterns head_row patterns_row channel_allocation_bits channel_allocation_len len_refusal normal_channel_allocation row_bits
-  channel-allocation-back rest o =
+  channel_allocation-back rest o =
       rw (
         append_assoc (row_bits (head_row e)) (row_bits (patterns_row e)) rest,
         parse_row_lem read_channel_allocation (head_row e) 0 (row_bits (patterns_row e) ++ rest) o head_fits,
@@ -161,11 +161,11 @@ module _ (e : ChanAllocElement) (h : channel_allocation_refusal e ≡ 0) where
             p,
             append-nil,
             append_assoc,
-            field-alone 2 e.mon_pattern _ (o + 23) channel-allocation-told.1,
+            field-alone 2 e.mon_pattern _ (o + 23) channel_allocation-told.1,
             p,
             field-alone 2 (frame18_number e.frame18_mon_pattern) rest (o + 23 + 2) f.0,
             f.1,
-            ne_eqb _ _ (ul_dl_told e.ul_dl_assigned channel-allocation-told.3),
+            ne_eqb _ _ (ul_dl_told e.ul_dl_assigned channel_allocation-told.3),
             (alloc_type-back e.alloc_type).1,
             timeslots_back e.ts_assigned,
             (ul_dl_back e.ul_dl_assigned).1,
@@ -178,9 +178,9 @@ module _ (e : ChanAllocElement) (h : channel_allocation_refusal e ≡ 0) where
           rw (
             p,
             append-nil,
-            field-alone 2 e.mon_pattern rest (o + 23) channel-allocation-told.1,
+            field-alone 2 e.mon_pattern rest (o + 23) channel_allocation-told.1,
             p,
-            ne_eqb _ _ (ul_dl_told e.ul_dl_assigned channel-allocation-told.3),
+            ne_eqb _ _ (ul_dl_told e.ul_dl_assigned channel_allocation-told.3),
             (alloc_type-back e.alloc_type).1,
             timeslots_back e.ts_assigned,
             (ul_dl_back e.ul_dl_assigned).1,
@@ -196,7 +196,7 @@ pub channel_allocation-written-back : (s : List ℕ) (c : Cursor) (e : ChanAlloc
 unfolding channel_allocation_at
 channel_allocation-written-back s c e h =
     written_back read_channel_allocation (λ c' a'. record { cursor = c'; answer = a' }) ChannelAllocationAnswer.Read ChannelAllocationAnswer.Refused s c (channel_allocation_refusal e) (channel_allocation_bits e) (channel_allocation-length e)
-    (λ rest. rw zero-add at (channel-allocation-back e (free _ _ _ _ h).value rest 0)) h
+    (λ rest. rw zero-add at (channel_allocation-back e (free _ _ _ _ h).value rest 0)) h
 
 -- ---- what is read, written again
 

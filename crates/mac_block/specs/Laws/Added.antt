@@ -8,7 +8,7 @@ use Rattle.block_rules.specs.Numbers.{most_bits}
 use Rattle.block_rules.specs.Ending.{length_of}
 use Rattle.block_rules.specs.Codec.{HeaderWriter}
 use Rattle.block_rules.specs.Writer as writer
-use Rattle.block_rules.specs.Writer.{Writer, after, refusal_of, add_of, added_of, addedBits, added, addTo}
+use Rattle.block_rules.specs.Writer.{Writer, after, refusal_of, add_of, added_of, added_bits, added, add_to}
 use Rattle.block_rules.specs.Laws.Refusals.{roomy}
 use Rattle.mac_block.specs.declared.writer.Written.{Written}
 use Rattle.mac_block.specs.Answers.{add_answer}
@@ -27,8 +27,8 @@ module _ {A : Type 0} (W : HeaderWriter A) (a : A) {e : EncodedHeader} (x : Enco
   numbered : e.number ≡ W.check a
   numbered = (x.encodes 0 false (omega arith)).number
 
-  left_as : encoded_to n w e (W.ending a) content k ≡ addTo W n w (add_of a content k)
-  unfolding encoded_to addTo writer.add_refusal added_of added addedBits bits_with
+  left_as : encoded_to n w e (W.ending a) content k ≡ add_to W n w (add_of a content k)
+  unfolding encoded_to add_to writer.add_refusal added_of added added_bits bits_with
   left_as =
       rw (counted, numbered)
       (after_same (refusal_of (length w.bytes) n w.bit (W.header_len a) (W.check a) (length content) k) w λ z.
@@ -37,6 +37,6 @@ module _ {A : Type 0} (W : HeaderWriter A) (a : A) {e : EncodedHeader} (x : Enco
 
   pub header-added : {r : Written} {t : List ℕ}
       → (r ≡ encoded_answer n w e (W.ending a) content k) × (t ≡ (encoded_to n w e (W.ending a) content k).bytes)
-      → (r ≡ add_answer W n w (add_of a content k)) × (t ≡ (addTo W n w (add_of a content k)).bytes)
+      → (r ≡ add_answer W n w (add_of a content k)) × (t ≡ (add_to W n w (add_of a content k)).bytes)
   unfolding encoded_answer add_answer writer.add_refusal
   header-added y = (y.0 ∙ rw (left_as, counted, numbered), y.1 ∙ ap (λ (u : Writer). u.bytes) left_as)

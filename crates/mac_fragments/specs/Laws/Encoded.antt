@@ -37,9 +37,9 @@ mac_frag_encodes x = whole-encodes frag_spaced x no-piece-encodes (no_tail_encod
 -- ---- MAC-END
 
 module _ (h : MacEnd) where
-  end-spaced : Spaced 6 places (λ l f. row_bits (front_row h.pos_of_grant l f))
+  end_spaced : Spaced 6 places (λ l f. row_bits (front_row h.pos_of_grant l f))
   unfolding row_bits bits_of_nat
-  end-spaced = record {
+  end_spaced = record {
     before = bits_of_nat 2 1 ++ bits_of_nat 1 1;
     between = bits_of_nat 1 h.pos_of_grant;
     behind = [];
@@ -58,7 +58,7 @@ module _ (h : MacEnd) where
   size = add-zero _
 
   -- k is judged first, and j is the length's own number, in its place among the fields
-  pub mac-end-encodes : {a b : Encoded} (k j : ℕ) → EncodesFront j h.pos_of_grant a → EncodesElements (elements_of h) b
+  pub mac_end-encodes : {a b : Encoded} (k j : ℕ) → EncodesFront j h.pos_of_grant a → EncodesElements (elements_of h) b
       → EncodesEnd (first (k ∷ fields_refusal h j ∷ [])) h (whole_of k a b no_tail places)
   unfolding header_bits
-  mac-end-encodes k j x y = whole-encodes end-spaced x y (no_tail_encodes _) k (rw (fields_apart j)) size (omega arith) (λ l f. append-nil _)
+  mac_end-encodes k j x y = whole-encodes end_spaced x y (no_tail_encodes _) k (rw (fields_apart j)) size (omega arith) (λ l f. append-nil _)

@@ -22,7 +22,7 @@ use Rattle.codec.specs.RoundTrip.{parse_row_lem, written_back}
 use Rattle.codec.specs.WrittenAgain.{Every, every_read, every_bind}
 use Rattle.codec.specs.Cases.{flag-back}
 use Rattle.optional_elements.specs.GrantAndAllocation.{read_grant_and_allocation, grant_and_allocation_refusal, grant_and_allocation_bits}
-use Rattle.optional_elements.specs.Laws.GrantAndAllocation.{grant-and-allocation-length, grant-and-allocation-bounds, grant-and-allocation-back, GrantAndAllocationAgain, grant_and_allocation_every}
+use Rattle.optional_elements.specs.Laws.GrantAndAllocation.{grant_and_allocation-length, grant_and_allocation-bounds, grant_and_allocation-back, GrantAndAllocationAgain, grant_and_allocation_every}
 use Rattle.mac_fragments.specs.TypeAndFill.{read_behind_type, read_type_and_fill, type_and_fill_row}
 use Rattle.mac_fragments.specs.MacEnd.{elements_of, mac_end_of, read_behind_fill, read_mac_end, mac_end_at, length_refusal, fields_refusal, add_refusal, mac_end_refusal, front_row, header_bits, mac_end_written, normal_mac_end, front_len, header_least, header_most, header_len}
 use Rattle.mac_fragments.specs.Laws.TypeAndFill.{type_and_fill_every}
@@ -65,11 +65,11 @@ told h e =
 pub mac_end-length : (h : MacEnd) (len : ℕ) (fill : Bool) → length (header_bits h len fill) ≡ header_len h
 unfolding header_bits header_len
 mac_end-length h len fill =
-    rw (length-append, length_row (front_row h.pos_of_grant len fill), grant-and-allocation-length (elements_of h))
+    rw (length-append, length_row (front_row h.pos_of_grant len fill), grant_and_allocation-length (elements_of h))
 
 pub mac_end-bounds : (h : MacEnd) → (header_least ≤ header_len h) × (header_len h ≤ header_most)
 unfolding header_len
-mac_end-bounds h = let e = grant-and-allocation-bounds (elements_of h) in (omega arith, omega arith)
+mac_end-bounds h = let e = grant_and_allocation-bounds (elements_of h) in (omega arith, omega arith)
 
 -- ---- where a PDU ends is said in its first 11 bits
 
@@ -100,11 +100,11 @@ module _ (h : MacEnd) (len : ℕ) (fill : Bool) (e : add_refusal h ≡ 0) where
       → parse (read_grant_and_allocation >>= λ x. done (mac_end_of fill h.pos_of_grant len x)) (grant_and_allocation_bits (elements_of h) ++ rest) front_len
       ≡ got (normal_mac_end h len fill) rest (header_len h)
   unfolding normal_mac_end header_len
-  behind rest = rw (parse_bind, grant-and-allocation-back (elements_of h) (add-told h e).1 rest front_len)
+  behind rest = rw (parse_bind, grant_and_allocation-back (elements_of h) (add-told h e).1 rest front_len)
 
-  pub mac-end-back : len < 64 → (rest : List Bool) → parse read_mac_end (header_bits h len fill ++ rest) 0 ≡ got (normal_mac_end h len fill) rest (header_len h)
+  pub mac_end-back : len < 64 → (rest : List Bool) → parse read_mac_end (header_bits h len fill ++ rest) 0 ≡ got (normal_mac_end h len fill) rest (header_len h)
   unfolding read_mac_end read_type_and_fill read_behind_type read_behind_fill header_bits row_bits
-  mac-end-back l rest =
+  mac_end-back l rest =
       let p = h.pos_of_grant in
       let tail = grant_and_allocation_bits (elements_of h) ++ rest in
       rw (append_assoc, parse_row_lem read_mac_end (front_row p len fill) 0 tail 0 (front_fits p len fill (add-told h e).0 l), flag-back fill)
@@ -127,7 +127,7 @@ unfolding mac_end_at
 mac_end-written-back s c h e =
     let t = told h (free _ _ _ _ e).value in
     written_back read_mac_end _ _ _ s c (mac_end_refusal h) _ (mac_end-length h h.length_ind h.fill_bits)
-    (mac-end-back h h.length_ind h.fill_bits t.fields t.small) e
+    (mac_end-back h h.length_ind h.fill_bits t.fields t.small) e
 
 -- ---- what was read is written again
 

@@ -5,7 +5,7 @@ use Rattle.codec.specs.Reader.{got, parse, parse_bind}
 use Rattle.codec.specs.Row.{row_bits, length_row}
 use Rattle.codec.specs.WrittenAgain.{Every, every_bind}
 use Rattle.channel_allocation.specs.ChannelAllocation.{read_channel_allocation, channel_allocation_bits}
-use Rattle.channel_allocation.specs.Laws.ChannelAllocation.{channel_allocation-length, channel_allocation-len, channel-allocation-back, ChannelAllocationAgain, channel_allocation_every}
+use Rattle.channel_allocation.specs.Laws.ChannelAllocation.{channel_allocation-length, channel_allocation-len, channel_allocation-back, ChannelAllocationAgain, channel_allocation_every}
 use Rattle.optional_elements.specs.Allocation.{allocation_most, allocation_len, allocation_element, read_allocation, allocation_refusal, flag_row, allocation_bits, normal_allocation}
 use Rattle.optional_elements.specs.Laws.Optional.{optional-zero, optional-one, optional_every}
 use Rattle.optional_elements.specs.declared.allocation.OptionalAllocation.{OptionalAllocation}
@@ -23,7 +23,7 @@ pub allocation-back : (a : OptionalAllocation) → allocation_refusal a ≡ 0 �
 unfolding read_allocation row_bits
 allocation-back OptionalAllocation.Without e rest o = optional-zero allocation_element OptionalAllocation.Without rest o
 allocation-back (OptionalAllocation.Element a) e rest o =
-    rw (optional-one allocation_element OptionalAllocation.Without [] (channel_allocation_bits a ++ rest) o, parse_bind, channel-allocation-back a e rest (o + 1), add_assoc)
+    rw (optional-one allocation_element OptionalAllocation.Without [] (channel_allocation_bits a ++ rest) o, parse_bind, channel_allocation-back a e rest (o + 1), add_assoc)
 
 -- it is not refused, it is in normal form, and its bits are xs
 abbrev pub AllocationAgain : OptionalAllocation → List Bool → Type 0

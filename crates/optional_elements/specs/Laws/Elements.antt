@@ -17,7 +17,7 @@ use Rattle.optional_elements.specs.PowerControl.{read_power, power_refusal}
 use Rattle.optional_elements.specs.GrantAndAllocation.{read_grant_and_allocation, grant_and_allocation_refusal, grant_and_allocation_bits}
 use Rattle.optional_elements.specs.Elements.{flags_len, elements_most, elements_len, no_elements, is_bare, no_element, read_elements, elements_refusal, elements_bits, normal_elements}
 use Rattle.optional_elements.specs.Laws.PowerControl.{power-length, power-bounds, power-back, PowerAgain, power_every}
-use Rattle.optional_elements.specs.Laws.GrantAndAllocation.{grant-and-allocation-length, grant-and-allocation-bounds, grant-and-allocation-back, GrantAndAllocationAgain, grant_and_allocation_every}
+use Rattle.optional_elements.specs.Laws.GrantAndAllocation.{grant_and_allocation-length, grant_and_allocation-bounds, grant_and_allocation-back, GrantAndAllocationAgain, grant_and_allocation_every}
 use Rattle.optional_elements.specs.declared.power_control.OptionalPower.{OptionalPower}
 use Rattle.optional_elements.specs.declared.slot_granting.OptionalGrant.{OptionalGrant}
 use Rattle.optional_elements.specs.declared.allocation.OptionalAllocation.{OptionalAllocation}
@@ -32,12 +32,12 @@ module _ (e : Elements) where
 
   pub elements-length : length (elements_bits e) ≡ elements_len e
   unfolding elements_bits
-  elements-length = rw (length-append, power-length e.power_control_element, grant-and-allocation-length e.grant_and_allocation)
+  elements-length = rw (length-append, power-length e.power_control_element, grant_and_allocation-length e.grant_and_allocation)
 
   pub elements-bounds : (flags_len ≤ elements_len e) × (elements_len e ≤ elements_most)
   elements-bounds =
       let p = power-bounds e.power_control_element in
-      let b = grant-and-allocation-bounds e.grant_and_allocation in
+      let b = grant_and_allocation-bounds e.grant_and_allocation in
       (omega arith, omega arith)
 
   pub elements-back : elements_refusal e ≡ 0 → (rest : List Bool) (o : ℕ) → parse read_elements (elements_bits e ++ rest) o ≡ got (normal_elements e) rest (o + elements_len e)
@@ -49,7 +49,7 @@ module _ (e : Elements) where
         parse_bind,
         power-back e.power_control_element t.0 _ o,
         parse_bind,
-        grant-and-allocation-back e.grant_and_allocation t.1 rest _,
+        grant_and_allocation-back e.grant_and_allocation t.1 rest _,
         add_assoc,
       )
 

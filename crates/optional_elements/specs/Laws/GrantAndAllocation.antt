@@ -15,27 +15,27 @@ use Rattle.optional_elements.specs.Laws.Allocation.{allocation-length, allocatio
 use Rattle.optional_elements.specs.declared.grant_and_allocation.GrantAndAllocation.{GrantAndAllocation}
 
 module _ (e : GrantAndAllocation) where
-  pub grant-and-allocation-told : grant_and_allocation_refusal e ≡ 0 → (granting_refusal e.slot_granting_element ≡ 0) × (allocation_refusal e.chan_alloc_element ≡ 0)
+  pub grant_and_allocation-told : grant_and_allocation_refusal e ≡ 0 → (granting_refusal e.slot_granting_element ≡ 0) × (allocation_refusal e.chan_alloc_element ≡ 0)
   unfolding grant_and_allocation_refusal
-  grant-and-allocation-told h =
+  grant_and_allocation-told h =
       let g = first-none (granting_refusal e.slot_granting_element) _ h in
       (g.0, (first-none (allocation_refusal e.chan_alloc_element) _ g.1).0)
 
-  pub grant-and-allocation-length : length (grant_and_allocation_bits e) ≡ grant_and_allocation_len e
+  pub grant_and_allocation-length : length (grant_and_allocation_bits e) ≡ grant_and_allocation_len e
   unfolding grant_and_allocation_bits
-  grant-and-allocation-length = rw (length-append, granting-length e.slot_granting_element, allocation-length e.chan_alloc_element)
+  grant_and_allocation-length = rw (length-append, granting-length e.slot_granting_element, allocation-length e.chan_alloc_element)
 
-  pub grant-and-allocation-bounds : (2 ≤ grant_and_allocation_len e) × (grant_and_allocation_len e ≤ grant_and_allocation_most)
-  grant-and-allocation-bounds =
+  pub grant_and_allocation-bounds : (2 ≤ grant_and_allocation_len e) × (grant_and_allocation_len e ≤ grant_and_allocation_most)
+  grant_and_allocation-bounds =
       let g = granting-bounds e.slot_granting_element in
       let a = allocation-bounds e.chan_alloc_element in
       (omega arith, omega arith)
 
-  pub grant-and-allocation-back : grant_and_allocation_refusal e ≡ 0 → (rest : List Bool) (o : ℕ)
+  pub grant_and_allocation-back : grant_and_allocation_refusal e ≡ 0 → (rest : List Bool) (o : ℕ)
       → parse read_grant_and_allocation (grant_and_allocation_bits e ++ rest) o ≡ got (normal_grant_and_allocation e) rest (o + grant_and_allocation_len e)
   unfolding read_grant_and_allocation grant_and_allocation_bits
-  grant-and-allocation-back h rest o =
-      let t = grant-and-allocation-told h in
+  grant_and_allocation-back h rest o =
+      let t = grant_and_allocation-told h in
       rw (
         append_assoc,
         parse_bind,

@@ -19,9 +19,9 @@ module _ {A : Type 0} (p : Reader A) (a : A) where
   unfolding optional
   optional-short e l = rw (ahead_field-short 1 e l)
 
-  pub optional-clear : {h : List Bool} {o x : ℕ} → Word h o 1 x → x ≡ 0 → parse (optional p a) (drop o h) o ≡ got a (drop (o + 1) h) (o + 1)
+  pub optional_clear : {h : List Bool} {o x : ℕ} → Word h o 1 x → x ≡ 0 → parse (optional p a) (drop o h) o ≡ got a (drop (o + 1) h) (o + 1)
   unfolding optional
-  optional-clear {x = x} e z = rw (alone e, eq-eqb x 0 z)
+  optional_clear {x = x} e z = rw (alone e, eq-eqb x 0 z)
 
   pub optional-set : {h : List Bool} {o x : ℕ} → Word h o 1 x → (x ≡ 0 → ⊥) → parse (optional p a) (drop o h) o ≡ parse p (drop (o + 1) h) (o + 1)
   unfolding optional

@@ -5,7 +5,7 @@ use Rattle.codec.specs.Reader.{got, parse, parse_bind}
 use Rattle.codec.specs.Row.{row_bits, length_row}
 use Rattle.codec.specs.WrittenAgain.{Every, every_bind}
 use Rattle.tetra_fields.specs.BasicSlotgrant.{read_slotgrant, slotgrant_row}
-use Rattle.tetra_fields.specs.Laws.BasicSlotgrant.{slotgrant-back, SlotgrantAgain, slotgrant_every}
+use Rattle.tetra_fields.specs.Laws.BasicSlotgrant.{slotgrant_back, SlotgrantAgain, slotgrant_every}
 use Rattle.optional_elements.specs.SlotGranting.{granting_most, granting_len, granting_element, read_granting, granting_refusal, granting_row}
 use Rattle.optional_elements.specs.Laws.Optional.{optional-zero, optional-one, optional_every}
 use Rattle.optional_elements.specs.declared.slot_granting.OptionalGrant.{OptionalGrant}
@@ -24,7 +24,7 @@ pub granting-back : (g : OptionalGrant) → granting_refusal g ≡ 0 → (rest :
 unfolding read_granting
 granting-back OptionalGrant.Without e rest o = optional-zero granting_element OptionalGrant.Without rest o
 granting-back (OptionalGrant.Element g) e rest o =
-    rw (optional-one granting_element OptionalGrant.Without (slotgrant_row g) rest o, parse_bind, slotgrant-back g e rest (o + 1), add_assoc)
+    rw (optional-one granting_element OptionalGrant.Without (slotgrant_row g) rest o, parse_bind, slotgrant_back g e rest (o + 1), add_assoc)
 
 -- it is not refused, and its bits are xs
 abbrev pub GrantingAgain : OptionalGrant → List Bool → Type 0

@@ -6,7 +6,7 @@ use Rattle.block_rules.specs.Downlink.{downlink_writer}
 use Rattle.block_rules.specs.Laws.Downlink.{length<64}
 use Rattle.mac_block.specs.Laws.Added.{header-added}
 use Rattle.tetra_block.specs.Block.{writer_moved}
-use Rattle.tetra_mac.specs.Laws.Reply.{write-no-room, record-unknown, record-replied}
+use Rattle.tetra_mac.specs.Laws.Reply.{write_no_room, record_unknown, record_replied}
 use Rattle.tetra_block.specs.Laws.{add-long}
 use Rattle.tetra_block.proofs.tetra_block_add.Statement.{statement}
 use Rattle.tetra_block.proofs.tetra_block_add.Tie as tie
@@ -21,15 +21,15 @@ returns-3 c =
     let g = l.before in
     let k = g.before.before in
     let e = header-added downlink_writer _ g.encoded-to-add.ensures (length<64 _) _ _ _ _ w.add-encoded.ensures in
-    record-replied _ _ _ _ _ k.add-known.ensures g.before.if2.false k.before.if1.false (rw l.length-value.ensures) (ap (writer_moved _) e.0, e.1) c.before.before.writer-moved.ensures
+    record_replied _ _ _ _ _ k.add-known.ensures g.before.if2.false k.before.if1.false (rw l.length-value.ensures) (ap (writer_moved _) e.0, e.1) c.before.before.writer-moved.ensures
 
 pub tetra-block-add-spec : {M : Type 1} → statement M
 tetra-block-add-spec =
     tie.close
     (tie.spec
-    (λ c. write-no-room _ _ _ _ _ c.if1.true)
+    (λ c. write_no_room _ _ _ _ _ c.if1.true)
     (λ c κs. search rules)
-    (λ c. record-unknown _ _ _ _ _ c.before.add-known.ensures c.if2.true)
+    (λ c. record_unknown _ _ _ _ _ c.before.add-known.ensures c.if2.true)
     encoded-to-add-requires
     (λ c κs. search rules)
     (λ c κs. settable c.before.before.encoded-to-add.ensures)

@@ -56,22 +56,22 @@ unfolding slotgrant_row
 slotgrant_length g = length_row (slotgrant_row g)
 
 module _ (g : BasicSlotgrant) (e : slotgrant_refusal g ≡ 0) where
-  pub slotgrant-fits : RowFits (slotgrant_row g)
+  pub slotgrant_fits : RowFits (slotgrant_row g)
   unfolding slotgrant_row slotgrant_refusal
-  slotgrant-fits = ((cap_alloc_back g.capacity_allocation).0, ((delay_back g.granting_delay e).0, tt))
+  slotgrant_fits = ((cap_alloc_back g.capacity_allocation).0, ((delay_back g.granting_delay e).0, tt))
 
   -- whatever follows its bits
-  pub slotgrant-back : (rest : List Bool) (o : ℕ) → parse read_slotgrant (row_bits (slotgrant_row g) ++ rest) o ≡ got g rest (o + slotgrant_size)
+  pub slotgrant_back : (rest : List Bool) (o : ℕ) → parse read_slotgrant (row_bits (slotgrant_row g) ++ rest) o ≡ got g rest (o + slotgrant_size)
   unfolding read_slotgrant slotgrant_row slotgrant_refusal
-  slotgrant-back rest o =
-      rw (parse_row_lem read_slotgrant (slotgrant_row g) 0 rest o slotgrant-fits, (cap_alloc_back g.capacity_allocation).1, (delay_back g.granting_delay e).1)
+  slotgrant_back rest o =
+      rw (parse_row_lem read_slotgrant (slotgrant_row g) 0 rest o slotgrant_fits, (cap_alloc_back g.capacity_allocation).1, (delay_back g.granting_delay e).1)
 
 -- in bytes: what to_bitbuf wrote, from_bitbuf reads at the same cursor
 pub slotgrant_written-back : (s : List ℕ) (c : Cursor) (g : BasicSlotgrant) → refusal_at (length s) c (slotgrant_refusal g) slotgrant_size ≡ 0
     → slotgrant_at (slotgrant_written s c g) c ≡ record { cursor = moved c slotgrant_size; answer = SlotgrantAnswer.Read g }
 unfolding slotgrant_at
 slotgrant_written-back s c g e =
-    written_back read_slotgrant (λ c' a'. record { cursor = c'; answer = a' }) SlotgrantAnswer.Read SlotgrantAnswer.Refused s c (slotgrant_refusal g) _ (slotgrant_length g) (λ rest. slotgrant-back g (free _ _ _ _ e).value rest 0) e
+    written_back read_slotgrant (λ c' a'. record { cursor = c'; answer = a' }) SlotgrantAnswer.Read SlotgrantAnswer.Refused s c (slotgrant_refusal g) _ (slotgrant_length g) (λ rest. slotgrant_back g (free _ _ _ _ e).value rest 0) e
 
 -- ---- what is read, written again
 

@@ -103,10 +103,10 @@ module _ (h : UplinkHead) (e : uplink_address_refusal h.addr ≡ 0) where
       number : ℕ
       number = uplink_number h.addr
 
-  head-back : (w : ℕ) (rest : List Bool) (o : ℕ)
+  head_back : (w : ℕ) (rest : List Bool) (o : ℕ)
       → parse (read_uplink_head w) (row_bits (uplink_row w h) ++ rest) o ≡ got (normal_head h) rest (o + uplink_size w h.addr)
   unfolding read_uplink_head uplink_row row_bits
-  head-back w rest o = rw (append_assoc, field-alone w 0 (row_bits (uplink_body_row h) ++ rest) o (pow_pos w), body_back rest (o + w), add_assoc)
+  head_back w rest o = rw (append_assoc, field-alone w 0 (row_bits (uplink_body_row h) ++ rest) o (pow_pos w), body_back rest (o + w), add_assoc)
 
 -- make is what puts the head and the value of the fields behind it together
 pub uplink_back : {A B : Type 0} (w : ℕ) (p : Reader A) (make : UplinkHead → A → B) (h : UplinkHead) (q : List Cell) {v : A} → uplink_address_refusal h.addr ≡ 0
@@ -114,7 +114,7 @@ pub uplink_back : {A B : Type 0} (w : ℕ) (p : Reader A) (make : UplinkHead →
     → parse (read_uplink_head w >>= (λ a. p >>= (λ b. done (make a b)))) (row_bits (uplink_row w h ++ q) ++ rest) o
     ≡ got (make (normal_head h) v) rest (o + (uplink_size w h.addr + size q))
 uplink_back w p make h q e back rest o =
-    rw (rows_append (uplink_row w h) q, append_assoc, parse_bind, head-back h e w (row_bits q ++ rest) o, parse_bind, back rest (o + uplink_size w h.addr), add_assoc)
+    rw (rows_append (uplink_row w h) q, append_assoc, parse_bind, head_back h e w (row_bits q ++ rest) o, parse_bind, back rest (o + uplink_size w h.addr), add_assoc)
 
 -- ---- what was read is written again
 

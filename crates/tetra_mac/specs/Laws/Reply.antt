@@ -23,9 +23,9 @@ long-enough n ws codes e = leb-true n (length ws) (and_both (leb n (length ws)) 
 
 -- the returns of a call that reads
 module _ {B : Type 0} (reply : List ℕ → ℕ → B → Reply) (n at : ℕ) (a : B) (out : List ℕ) where
-  pub read-no-room : length out < n → replied malformed out ≡ read_reply reply n at a out
+  pub read_no_room : length out < n → replied malformed out ≡ read_reply reply n at a out
   unfolding read_reply
-  read-no-room h = rw (lt-leb n (length out) h)
+  read_no_room h = rw (lt-leb n (length out) h)
 
   pub read-replied : n ≤ length out → {b : B} → a ≡ b → {r : Reply} → r ≡ reply out at b → r ≡ read_reply reply n at a out
   unfolding read_reply
@@ -33,38 +33,38 @@ module _ {B : Type 0} (reply : List ℕ → ℕ → B → Reply) (n at : ℕ) (a
 
 -- the returns of a call that writes
 module _ {A : Type 0} (write : A → Moved) (written : A → List ℕ) (s out : List ℕ) where
-  pub write-no-room : (v : Option A) → length out < 1 → wrote malformed out s ≡ write_reply write written s v out
+  pub write_no_room : (v : Option A) → length out < 1 → wrote malformed out s ≡ write_reply write written s v out
   unfolding write_reply
-  write-no-room none h = refl
-  write-no-room (some v) h = rw (lt-leb 1 (length out) h)
+  write_no_room none h = refl
+  write_no_room (some v) h = rw (lt-leb 1 (length out) h)
 
-  pub write-replied : 1 ≤ length out → {v : A} {n : ℕ} {after bytes : List ℕ} {m : Moved}
+  pub write_replied : 1 ≤ length out → {v : A} {n : ℕ} {after bytes : List ℕ} {m : Moved}
       → (m ≡ write v) × (bytes ≡ written v) → replied n after ≡ moved_reply out m → wrote n after bytes ≡ write_reply write written s (some v) out
   unfolding write_reply
-  write-replied l {bytes = b} d r = rw (le-leb 1 (length out) l, ← d.0, ← d.1) (ap (λ (y : Reply). with_bytes y b) r)
+  write_replied l {bytes = b} d r = rw (le-leb 1 (length out) l, ← d.0, ← d.1) (ap (λ (y : Reply). with_bytes y b) r)
 
   -- of a record, which is known where t is true
   module _ (v : A) {known t : Bool} (e : t ≡ known) where
-    pub record-unknown : not t ≡ true → wrote malformed out s ≡ write_reply write written s (value_if known v) out
+    pub record_unknown : not t ≡ true → wrote malformed out s ≡ write_reply write written s (value_if known v) out
     unfolding write_reply value_if
-    record-unknown h = rw (sym e ∙ not-true t h)
+    record_unknown h = rw (sym e ∙ not-true t h)
 
-    pub record-replied : not t ≡ false → 1 ≤ length out → {x : A} {n : ℕ} {after bytes : List ℕ} {m : Moved}
+    pub record_replied : not t ≡ false → 1 ≤ length out → {x : A} {n : ℕ} {after bytes : List ℕ} {m : Moved}
         → x ≡ v → (m ≡ write x) × (bytes ≡ written x) → replied n after ≡ moved_reply out m → wrote n after bytes ≡ write_reply write written s (value_if known v) out
     unfolding value_if
-    record-replied h l q d r = rw (sym e ∙ not-false t h, ← q) (write-replied l d r)
+    record_replied h l q d r = rw (sym e ∙ not-false t h, ← q) (write_replied l d r)
 
 -- the returns of a call that counts a record's bits
 module _ {A : Type 0} (reply : A → Reply) (n : ℕ) (out : List ℕ) where
-  pub count-no-room : (v : Option A) → length out < n → replied malformed out ≡ record_reply reply n v out
+  pub count_no_room : (v : Option A) → length out < n → replied malformed out ≡ record_reply reply n v out
   unfolding record_reply
-  count-no-room none h = refl
-  count-no-room (some v) h = rw (lt-leb n (length out) h)
+  count_no_room none h = refl
+  count_no_room (some v) h = rw (lt-leb n (length out) h)
 
   module _ (v : A) {known t : Bool} (e : t ≡ known) where
-    pub count-unknown : not t ≡ true → replied malformed out ≡ record_reply reply n (value_if known v) out
+    pub count_unknown : not t ≡ true → replied malformed out ≡ record_reply reply n (value_if known v) out
     unfolding record_reply value_if
-    count-unknown h = rw (sym e ∙ not-true t h)
+    count_unknown h = rw (sym e ∙ not-true t h)
 
     pub count-replied : not t ≡ false → n ≤ length out → {x : A} {r : Reply} → x ≡ v → r ≡ reply x → r ≡ record_reply reply n (value_if known v) out
     unfolding record_reply value_if

@@ -3,7 +3,7 @@ use native.Mathlib.Omega.{arith}
 use borrow.Author.Rules.{rules}
 use borrow.Author.Tests.{not-false}
 use lib.ListN.{length-set}
-use Rattle.tetra_mac.specs.Laws.Reply.{count-no-room, count-unknown, count-replied}
+use Rattle.tetra_mac.specs.Laws.Reply.{count_no_room, count_unknown, count-replied}
 use Rattle.tetra_resource.specs.Laws.MacResource.{mac_resource_long}
 use Rattle.tetra_resource.proofs.tetra_mac_resource_len_and_fill.Statement.{statement}
 use Rattle.tetra_resource.proofs.tetra_mac_resource_len_and_fill.Tie as tie
@@ -29,9 +29,9 @@ pub tetra-mac-resource-len-and-fill-spec : {M : Type 1} → statement M
 tetra-mac-resource-len-and-fill-spec =
     tie.close
     (tie.spec
-    (λ c. count-no-room _ _ _ _ c.if1.true)
+    (λ c. count_no_room _ _ _ _ c.if1.true)
     (λ c κs. search rules)
-    (λ c. count-unknown _ _ _ _ c.before.mac-resource-known.ensures c.if2.true)
+    (λ c. count_unknown _ _ _ _ c.before.mac-resource-known.ensures c.if2.true)
     mac-resource-value-requires
     (λ c κs. search rules)
     (λ c. search rules)

@@ -1,6 +1,6 @@
 use borrow.Author.Rules.{rules}
 use native.Mathlib.Omega.{arith}
-use Rattle.codec.proofs.Setting.{length-exact, flag-exact, sum_fits, all-fits}
+use Rattle.codec.proofs.Setting.{length_exact, flag_exact, sum_fits, all_fits}
 use Rattle.codec.proofs.encoded.with_length.Statement.{statement}
 use Rattle.codec.proofs.encoded.with_length.Tie as tie
 
@@ -26,7 +26,7 @@ add-t9 : tie.Need-overflow-add-t9
 add-t9 c =
     let b = c.before.before.before.before.before in
     let d = b.before.before.before in
-    rw b.bit.ensures.0 (all-fits d.args.e d.requires.1 d.args.length-ind d.args.fill-bits d.requires.2)
+    rw b.bit.ensures.0 (all_fits d.args.e d.requires.1 d.args.length-ind d.args.fill-bits d.requires.2)
 
 returns : tie.Need-returns
 returns c =
@@ -34,8 +34,8 @@ returns c =
     let d = b.before.before.before in
     rw (
       b.bit.ensures.0,
-      length-exact d.args.e d.requires.1 d.args.length-ind d.args.fill-bits d.requires.2,
-      flag-exact d.args.e d.requires.1 d.args.length-ind d.args.fill-bits d.requires.2,
+      length_exact d.args.e d.requires.1 d.args.length-ind d.args.fill-bits d.requires.2,
+      flag_exact d.args.e d.requires.1 d.args.length-ind d.args.fill-bits d.requires.2,
     )
 
 pub with-length-spec : {M : Type 1} → statement M

@@ -4,12 +4,12 @@ use native.Mathlib.Omega.{arith}
 use borrow.Author.Rules.{rules}
 use Rattle.codec.specs.Encoded.{settable}
 use Rattle.mac_resource.specs.MacResource.{header_len}
-use Rattle.block_rules.specs.Writer.{addCheck}
+use Rattle.block_rules.specs.Writer.{add_check}
 use Rattle.mac_block.proofs.writer.add_check.Statement.{statement}
 use Rattle.mac_block.proofs.writer.add_check.Tie as tie
 
 returns : tie.Need-returns
-unfolding addCheck
+unfolding add_check
 returns c =
     let x = c.before.before.encode-to-add.ensures.encodes 0 false (omega arith) in
     let n = c.before in

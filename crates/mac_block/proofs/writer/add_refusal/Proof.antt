@@ -5,7 +5,7 @@ use borrow.Author.Rules.{rules}
 use borrow.Author.Tests.{le-leb, lt-leb}
 use Rattle.block_rules.specs.Writer.{finish_refusal, check_of}
 use Rattle.block_rules.specs.Laws.Refusals.{placed, finish_tests, check-none}
-use Rattle.mac_block.proofs.AddRefusals.{not_there, not-given, not-fine, by-room}
+use Rattle.mac_block.proofs.AddRefusals.{not_there, not_given, not_fine, by_room}
 use Rattle.mac_block.proofs.writer.add_refusal.Statement.{statement}
 use Rattle.mac_block.proofs.writer.add_refusal.Tie as tie
 
@@ -16,12 +16,12 @@ there : (c : tie.Else1) → let a = c.before.before.args in finish_refusal a.len
 there c = sym c.before.finish-refusal.ensures ∙ c.if1.false
 
 returns-2 : tie.Need-returns-2
-returns-2 c = not-given _ _ _ _ _ _ _ (there c.before) (omega arith)
+returns-2 c = not_given _ _ _ _ _ _ _ (there c.before) (omega arith)
 
 returns-3 : tie.Need-returns-3
 returns-3 c =
     let o = c.before.before.before in
-    not-fine _ _ _ _ _ _ _ (there o) (omega arith) c.before.check-sized.ensures c.if3.true
+    not_fine _ _ _ _ _ _ _ (there o) (omega arith) c.before.check-sized.ensures c.if3.true
 
 fine : (c : tie.Else3) → let a = c.before.before.before.before.before.args in check_of a.header-bits a.header-number a.content-bits ≡ 0
 fine c = sym c.before.check-sized.ensures ∙ c.if3.false
@@ -33,7 +33,7 @@ returns-4 c =
     let a = o.before.before.args in
     let h : a.bits - a.bit < a.header-bits + a.content-bits = omega arith in
     let g : a.content-bits ≤ 8 * a.slice = omega arith in
-    rw (by-room _ _ _ _ _ _ _ (there o) g (fine b), lt-leb _ _ h)
+    rw (by_room _ _ _ _ _ _ _ (there o) g (fine b), lt-leb _ _ h)
 
 returns-5 : tie.Need-returns-5
 returns-5 c =
@@ -42,7 +42,7 @@ returns-5 c =
     let a = o.before.before.args in
     let h : a.header-bits + a.content-bits ≤ a.bits - a.bit = omega arith in
     let g : a.content-bits ≤ 8 * a.slice = omega arith in
-    rw (by-room _ _ _ _ _ _ _ (there o) g (fine b), le-leb _ _ h)
+    rw (by_room _ _ _ _ _ _ _ (there o) g (fine b), le-leb _ _ h)
 
 pub add-refusal-spec : {M : Type 1} → statement M
 add-refusal-spec =

@@ -1,7 +1,7 @@
 use native.Mathlib.Omega.{arith}
 use borrow.Author.Rules.{rules}
 use Rattle.codec.specs.Encoded.{refused-encodes, piece_encodes}
-use Rattle.optional_elements.specs.Laws.GrantAndAllocation.{grant-and-allocation-bounds}
+use Rattle.optional_elements.specs.Laws.GrantAndAllocation.{grant_and_allocation-bounds}
 use Rattle.mac_fragments.proofs.mac_end.elements_encoded.Statement.{statement}
 use Rattle.mac_fragments.proofs.mac_end.elements_encoded.Tie as tie
 
@@ -14,7 +14,7 @@ returns c =
 returns-2 : tie.Need-returns-2
 returns-2 c =
     let r = c.before.before in
-    piece_encodes r.grant-and-allocation-refusal.ensures (omega (arith, (grant-and-allocation-bounds r.before.args.e).1)) c.grant-and-allocation-piece.ensures
+    piece_encodes r.grant-and-allocation-refusal.ensures (omega (arith, (grant_and_allocation-bounds r.before.args.e).1)) c.grant-and-allocation-piece.ensures
 
 pub elements-encoded-spec : {M : Type 1} → statement M
 elements-encoded-spec = tie.close (tie.spec (λ c κs. search rules) (λ c κs. search rules) (λ c κs. search rules) returns (λ c κs. search rules) returns-2)

@@ -8,7 +8,7 @@ returns c =
     let r = c.before in
     let n = r.before in
     let f = n.before in
-    rw (c.whole.ensures, n.null-added.ensures) (add-encodes f.before.args.h f.front-to-add.ensures r.rest-encoded.ensures)
+    rw (c.whole.ensures, n.null-added.ensures) (add-encodes f.before.args.h f.front-to-add.ensures r.rest_encoded.ensures)
 
 pub encode-to-add-spec : {M : Type 1} → statement M
 encode-to-add-spec =

@@ -5,7 +5,7 @@ use Rattle.codec.specs.Header.{read, next-part}
 use Rattle.codec.specs.Reader.{parse_bind}
 use Rattle.codec.specs.Ahead.{held_on, ready_on, onward, onward_then}
 use Rattle.optional_elements.specs.Allocation.{allocation_most, allocation_element, read_allocation}
-use Rattle.optional_elements.specs.Laws.Optional.{optional-short, optional-clear, optional-set}
+use Rattle.optional_elements.specs.Laws.Optional.{optional-short, optional_clear, optional-set}
 use Rattle.optional_elements.specs.declared.allocation.OptionalAllocation.{OptionalAllocation}
 use Rattle.channel_allocation.specs.ChannelAllocation.{channel_allocation_most}
 use Rattle.optional_elements.proofs.allocation.read_allocation.Statement.{statement}
@@ -31,7 +31,7 @@ returns-2 c =
           means = rw (
             c.no-refusal.ensures,
             o.advance.ensures,
-            optional-clear allocation_element OptionalAllocation.Without (t.next-bits.ensures.word h e l) c.before.if2.true,
+            optional_clear allocation_element OptionalAllocation.Without (t.next-bits.ensures.word h e l) c.before.if2.true,
           );
         };
       },

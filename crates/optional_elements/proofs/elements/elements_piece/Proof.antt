@@ -1,7 +1,7 @@
 use native.Mathlib.Omega.{arith}
 use Rattle.optional_elements.specs.Elements.{elements_bits}
 use Rattle.optional_elements.specs.Laws.PowerControl.{power-bounds}
-use Rattle.optional_elements.specs.Laws.GrantAndAllocation.{grant-and-allocation-bounds}
+use Rattle.optional_elements.specs.Laws.GrantAndAllocation.{grant_and_allocation-bounds}
 use Rattle.optional_elements.specs.Laws.Elements.{elements-told}
 use Rattle.codec.specs.Piece.{join_holds}
 use Rattle.optional_elements.proofs.elements.elements_piece.Statement.{statement}
@@ -12,7 +12,7 @@ joined-requires c κs =
     let p = c.power-piece.ensures in
     let b = c.before.grant-and-allocation-piece.ensures in
     let e = c.before.before.before.args.e in
-    (p.small, b.small, omega (arith, p.size, b.size, (power-bounds e.power_control_element).1, (grant-and-allocation-bounds e.grant_and_allocation).1))
+    (p.small, b.small, omega (arith, p.size, b.size, (power-bounds e.power_control_element).1, (grant_and_allocation-bounds e.grant_and_allocation).1))
 
 returns : tie.Need-returns
 unfolding elements_bits

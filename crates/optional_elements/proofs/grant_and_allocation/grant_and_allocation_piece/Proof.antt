@@ -2,7 +2,7 @@ use native.Mathlib.Omega.{arith}
 use Rattle.optional_elements.specs.GrantAndAllocation.{grant_and_allocation_bits}
 use Rattle.optional_elements.specs.Laws.SlotGranting.{granting-bounds}
 use Rattle.optional_elements.specs.Laws.Allocation.{allocation-bounds}
-use Rattle.optional_elements.specs.Laws.GrantAndAllocation.{grant-and-allocation-told}
+use Rattle.optional_elements.specs.Laws.GrantAndAllocation.{grant_and_allocation-told}
 use Rattle.codec.specs.Piece.{join_holds}
 use Rattle.optional_elements.proofs.grant_and_allocation.grant_and_allocation_piece.Statement.{statement}
 use Rattle.optional_elements.proofs.grant_and_allocation.grant_and_allocation_piece.Tie as tie
@@ -24,7 +24,7 @@ pub grant-and-allocation-piece-spec : {M : Type 1} → statement M
 grant-and-allocation-piece-spec =
     tie.close
     (tie.spec
-    (λ c κs. (grant-and-allocation-told c.args.e c.requires).0)
-    (λ c κs. let d = c.before in (grant-and-allocation-told d.args.e d.requires).1)
+    (λ c κs. (grant_and_allocation-told c.args.e c.requires).0)
+    (λ c κs. let d = c.before in (grant_and_allocation-told d.args.e d.requires).1)
     joined-requires
     returns)

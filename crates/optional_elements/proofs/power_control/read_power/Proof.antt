@@ -3,7 +3,7 @@ use borrow.Author.Rules.{rules}
 use Rattle.codec.specs.Header.{alone}
 use Rattle.codec.specs.Ahead.{held_on, ready_on, ahead_field-short, onward, onward_then}
 use Rattle.optional_elements.specs.PowerControl.{power_element, read_power}
-use Rattle.optional_elements.specs.Laws.Optional.{optional-short, optional-clear, optional-set}
+use Rattle.optional_elements.specs.Laws.Optional.{optional-short, optional_clear, optional-set}
 use Rattle.optional_elements.specs.declared.power_control.OptionalPower.{OptionalPower}
 use Rattle.optional_elements.proofs.power_control.read_power.Statement.{statement}
 use Rattle.optional_elements.proofs.power_control.read_power.Tie as tie
@@ -25,7 +25,7 @@ returns-2 c =
     let l = o.before.if1.false in (
       record {
         of = λ h e. record {
-          means = rw (c.no-refusal.ensures, o.advance.ensures, optional-clear power_element OptionalPower.Without (t.next-bits.ensures.word h e l) c.before.if2.true);
+          means = rw (c.no-refusal.ensures, o.advance.ensures, optional_clear power_element OptionalPower.Without (t.next-bits.ensures.word h e l) c.before.if2.true);
         };
       },
       λ z. rw o.advance.ensures (onward 1 5 (omega arith) l),

@@ -7,7 +7,7 @@ use Rattle.codec.specs.Header.{read}
 use Rattle.codec.specs.Reader.{parse_bind}
 use Rattle.codec.specs.Ahead.{held_on, ready_on, onward, onward_then, read-there}
 use Rattle.optional_elements.specs.SlotGranting.{granting_element, read_granting}
-use Rattle.optional_elements.specs.Laws.Optional.{optional-short, optional-clear, optional-set}
+use Rattle.optional_elements.specs.Laws.Optional.{optional-short, optional_clear, optional-set}
 use Rattle.optional_elements.specs.declared.slot_granting.OptionalGrant.{OptionalGrant}
 use Rattle.optional_elements.proofs.slot_granting.read_granting.Statement.{statement}
 use Rattle.optional_elements.proofs.slot_granting.read_granting.Tie as tie
@@ -31,7 +31,7 @@ returns-2 c =
     let l = o.before.if1.false in (
       record {
         of = λ h e. record {
-          means = rw (c.no-refusal.ensures, o.advance.ensures, optional-clear granting_element OptionalGrant.Without (t.next-bits.ensures.word h e l) c.before.if2.true);
+          means = rw (c.no-refusal.ensures, o.advance.ensures, optional_clear granting_element OptionalGrant.Without (t.next-bits.ensures.word h e l) c.before.if2.true);
         };
       },
       λ z. rw o.advance.ensures (onward 1 9 (omega arith) l),

@@ -1,7 +1,7 @@
 use mathlib.Core.Path.{sym, ◌∙◌}
 use borrow.Author.Rules.{rules}
 use borrow.Author.Tests.{not-false}
-use Rattle.tetra_mac.specs.Laws.Reply.{count-no-room, count-unknown, count-replied}
+use Rattle.tetra_mac.specs.Laws.Reply.{count_no_room, count_unknown, count-replied}
 use Rattle.tetra_fragments.specs.Laws.MacEnd.{mac_end-long}
 use Rattle.tetra_fragments.proofs.mac_end.tetra_mac_end_len_and_fill.Statement.{statement}
 use Rattle.tetra_fragments.proofs.mac_end.tetra_mac_end_len_and_fill.Tie as tie
@@ -21,9 +21,9 @@ pub tetra-mac-end-len-and-fill-spec : {M : Type 1} → statement M
 tetra-mac-end-len-and-fill-spec =
     tie.close
     (tie.spec
-    (λ c. count-no-room _ _ _ _ c.if1.true)
+    (λ c. count_no_room _ _ _ _ c.if1.true)
     (λ c κs. search rules)
-    (λ c. count-unknown _ _ _ _ c.before.mac-end-known.ensures c.if2.true)
+    (λ c. count_unknown _ _ _ _ c.before.mac-end-known.ensures c.if2.true)
     mac-end-value-requires
     (λ c κs. search rules)
     (λ c κs. search rules)

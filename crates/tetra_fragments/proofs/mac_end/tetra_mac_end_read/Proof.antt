@@ -1,5 +1,5 @@
 use borrow.Author.Rules.{rules}
-use Rattle.tetra_mac.specs.Laws.Reply.{read-no-room, read-replied}
+use Rattle.tetra_mac.specs.Laws.Reply.{read_no_room, read-replied}
 use Rattle.tetra_fragments.specs.Laws.MacEnd.{mac_end-bit}
 use Rattle.tetra_fragments.proofs.mac_end.tetra_mac_end_read.Statement.{statement}
 use Rattle.tetra_fragments.proofs.mac_end.tetra_mac_end_read.Tie as tie
@@ -27,7 +27,7 @@ pub tetra-mac-end-read-spec : {M : Type 1} → statement M
 tetra-mac-end-read-spec =
     tie.close
     (tie.spec
-    (λ c. read-no-room _ _ _ _ _ c.if1.true)
+    (λ c. read_no_room _ _ _ _ _ c.if1.true)
     (λ c κs. search rules)
     (λ c. search rules)
     (λ c κs. search rules)

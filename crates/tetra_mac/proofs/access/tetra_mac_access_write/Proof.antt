@@ -1,7 +1,7 @@
 use mathlib.Core.Path.{sym, ◌∙◌}
 use borrow.Author.Rules.{rules}
 use borrow.Author.Tests.{not-false}
-use Rattle.tetra_mac.specs.Laws.Reply.{write-no-room, record-unknown, record-replied}
+use Rattle.tetra_mac.specs.Laws.Reply.{write_no_room, record_unknown, record_replied}
 use Rattle.tetra_mac.specs.Laws.MacAccess.{mac_access_long}
 use Rattle.tetra_mac.proofs.access.tetra_mac_access_write.Statement.{statement}
 use Rattle.tetra_mac.proofs.access.tetra_mac_access_write.Tie as tie
@@ -14,15 +14,15 @@ returns-3 c =
     let w = c.before.before.before.before.before.before in
     let g = w.before.before in
     let k = g.before.before in
-    record-replied _ _ _ _ _ k.mac-access-known.ensures g.before.if2.false k.before.if1.false g.mac-access-value.ensures w.to-bitbuf.ensures c.before.before.moved.ensures
+    record_replied _ _ _ _ _ k.mac-access-known.ensures g.before.if2.false k.before.if1.false g.mac-access-value.ensures w.to-bitbuf.ensures c.before.before.moved.ensures
 
 pub tetra-mac-access-write-spec : {M : Type 1} → statement M
 tetra-mac-access-write-spec =
     tie.close
     (tie.spec
-    (λ c. write-no-room _ _ _ _ _ c.if1.true)
+    (λ c. write_no_room _ _ _ _ _ c.if1.true)
     (λ c κs. search rules)
-    (λ c. record-unknown _ _ _ _ _ c.before.mac-access-known.ensures c.if2.true)
+    (λ c. record_unknown _ _ _ _ _ c.before.mac-access-known.ensures c.if2.true)
     mac-access-value-requires
     (λ c κs. search rules)
     (λ c κs. search rules)

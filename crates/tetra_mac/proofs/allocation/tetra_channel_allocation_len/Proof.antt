@@ -2,7 +2,7 @@ use mathlib.Core.Path.{sym, ◌∙◌}
 use borrow.Author.Rules.{rules}
 use borrow.Author.Tests.{not-false}
 use Rattle.tetra_mac.specs.Laws.ChannelAllocation.{channel_allocation-long}
-use Rattle.tetra_mac.specs.Laws.Reply.{count-no-room, count-unknown, count-replied}
+use Rattle.tetra_mac.specs.Laws.Reply.{count_no_room, count_unknown, count-replied}
 use Rattle.tetra_mac.proofs.allocation.tetra_channel_allocation_len.Statement.{statement}
 use Rattle.tetra_mac.proofs.allocation.tetra_channel_allocation_len.Tie as tie
 
@@ -28,9 +28,9 @@ pub tetra-channel-allocation-len-spec : {M : Type 1} → statement M
 tetra-channel-allocation-len-spec =
     tie.close
     (tie.spec
-    (λ c. count-no-room _ _ _ _ c.if1.true)
+    (λ c. count_no_room _ _ _ _ c.if1.true)
     (λ c κs. search rules)
-    (λ c. count-unknown _ _ _ _ c.before.channel-allocation-known.ensures c.if2.true)
+    (λ c. count_unknown _ _ _ _ c.before.channel-allocation-known.ensures c.if2.true)
     channel-allocation-value-requires
     (λ c κs. search rules)
     (λ c. search rules)

@@ -1,6 +1,6 @@
 use mathlib.Core.Path.{◌∙◌}
 use borrow.Author.Rules.{rules}
-use Rattle.tetra_mac.specs.Laws.Reply.{read-no-room, read-replied}
+use Rattle.tetra_mac.specs.Laws.Reply.{read_no_room, read-replied}
 use Rattle.tetra_mac.specs.Laws.AccessAssign.{access_assign_bit_lem}
 use Rattle.tetra_mac.proofs.assign.tetra_access_assign_read.Statement.{statement}
 use Rattle.tetra_mac.proofs.assign.tetra_access_assign_read.Tie as tie
@@ -27,7 +27,7 @@ pub tetra-access-assign-read-spec : {M : Type 1} → statement M
 tetra-access-assign-read-spec =
     tie.close
     (tie.spec
-    (λ c. read-no-room _ _ _ _ _ c.if1.true)
+    (λ c. read_no_room _ _ _ _ _ c.if1.true)
     (λ c κs. search rules)
     (λ c. search rules)
     (λ c κs. search rules)

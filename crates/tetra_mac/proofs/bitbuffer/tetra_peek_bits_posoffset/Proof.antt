@@ -2,7 +2,7 @@ use mathlib.Core.Path.{refl}
 use borrow.Author.Rules.{rules}
 use mir.Facts.{to_z-of_z}
 use Rattle.tetra_mac.specs.Laws.Bits.{peek_bits-bit}
-use Rattle.tetra_mac.specs.Laws.Reply.{read-no-room, read-replied}
+use Rattle.tetra_mac.specs.Laws.Reply.{read_no_room, read-replied}
 use Rattle.tetra_mac.proofs.bitbuffer.tetra_peek_bits_posoffset.Statement.{statement}
 use Rattle.tetra_mac.proofs.bitbuffer.tetra_peek_bits_posoffset.Tie as tie
 
@@ -18,4 +18,4 @@ returns-2 c =
 pub tetra-peek-bits-posoffset-spec : {M : Type 1} → statement M
 tetra-peek-bits-posoffset-spec =
     tie.close
-    (tie.spec (λ c. read-no-room _ _ _ _ _ c.if1.true) (λ c κs. search rules) bits-reply-requires (λ c. search rules) returns-2)
+    (tie.spec (λ c. read_no_room _ _ _ _ _ c.if1.true) (λ c κs. search rules) bits-reply-requires (λ c. search rules) returns-2)

@@ -1,7 +1,7 @@
 use mathlib.Core.Path.{refl}
 use borrow.Author.Rules.{rules}
 use Rattle.tetra_mac.specs.Laws.Bits.{read-bits-bit}
-use Rattle.tetra_mac.specs.Laws.Reply.{read-no-room, read-replied}
+use Rattle.tetra_mac.specs.Laws.Reply.{read_no_room, read-replied}
 use Rattle.tetra_mac.proofs.bitbuffer.tetra_read_bits.Statement.{statement}
 use Rattle.tetra_mac.proofs.bitbuffer.tetra_read_bits.Tie as tie
 
@@ -16,4 +16,4 @@ returns-2 c =
 pub tetra-read-bits-spec : {M : Type 1} → statement M
 tetra-read-bits-spec =
     tie.close
-    (tie.spec (λ c. read-no-room _ _ _ _ _ c.if1.true) (λ c κs. search rules) bits-reply-requires (λ c. search rules) returns-2)
+    (tie.spec (λ c. read_no_room _ _ _ _ _ c.if1.true) (λ c κs. search rules) bits-reply-requires (λ c. search rules) returns-2)

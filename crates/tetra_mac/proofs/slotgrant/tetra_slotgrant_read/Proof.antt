@@ -1,6 +1,6 @@
 use mathlib.Core.Path.{◌∙◌}
 use borrow.Author.Rules.{rules}
-use Rattle.tetra_mac.specs.Laws.Reply.{read-no-room, read-replied}
+use Rattle.tetra_mac.specs.Laws.Reply.{read_no_room, read-replied}
 use Rattle.tetra_mac.specs.Laws.Slotgrant.{slotgrant_bit_lem}
 use Rattle.tetra_mac.proofs.slotgrant.tetra_slotgrant_read.Statement.{statement}
 use Rattle.tetra_mac.proofs.slotgrant.tetra_slotgrant_read.Tie as tie
@@ -27,7 +27,7 @@ pub tetra-slotgrant-read-spec : {M : Type 1} → statement M
 tetra-slotgrant-read-spec =
     tie.close
     (tie.spec
-    (λ c. read-no-room _ _ _ _ _ c.if1.true)
+    (λ c. read_no_room _ _ _ _ _ c.if1.true)
     (λ c κs. search rules)
     (λ c. search rules)
     (λ c κs. search rules)
