@@ -1,4 +1,4 @@
-//! Has `rt staticlib` prove and write the three static libraries in the repository's root, where one is older than a source, and links them.
+//! Has `rt lib` prove and write the three static libraries in the repository's root, where one is older than a source, and links them.
 //! With LIBTETRA_MAC set, the folder of libraries that are there already, it only links.
 use std::path::{Path, PathBuf};
 use std::process::{Command, Stdio};

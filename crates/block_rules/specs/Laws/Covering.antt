@@ -63,7 +63,7 @@ module _ {H : Type 0} (n : ℕ) where
   apart (Covers.unsized _) j (suc k) d e h x y = absurd (none-ne-some e y)
   apart (Covers.sized _ c) zero (suc k) d e h x y =
       subst (λ a. a.bit + size_in n a ≤ e.bit) (some-injective _ d x) (lies c k e y).behind
-  apart (Covers.sized _ c) (suc j) (suc k) d e h x y = apart c j k d e (omega arith) x y
+  apart {p = p} (Covers.sized {s = s} _ c) (suc j) (suc k) d e h x y = apart {p = p + s} c j k d e (omega arith) x y
 
   -- a walk has at most one entry for each 16 bits
   pub at_most : {p r : ℕ} {es : List (Entry H)} → Covers n p es r → p + least_bits * length es ≤ n

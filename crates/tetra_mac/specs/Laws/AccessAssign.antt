@@ -91,6 +91,6 @@ pub access_assign_bit_lem : (s : List ℕ) (c : Cursor) {d : AccessAssignRead} {
 unfolding access_assign_at read_access_assign access_assign_of
 access_assign_bit_lem s c e a =
     let b : access_assign_bit (access_assign_at s c).answer ≤ 65536 =
-    bit-within read_access_assign _ _ _ (λ (d : AccessAssignRead). access_assign_bit d.answer) (λ c h. refl) (λ c r. refl)
+    bit-within read_access_assign (λ c' a'. record { cursor = c'; answer = a' }) AccessAssignAnswer.Read AccessAssignAnswer.Refused (λ (d : AccessAssignRead). access_assign_bit d.answer) (λ c h. refl) (λ c r. refl)
     (λ _ _ _. (tt, (tt, (tt, (tt, omega arith))))) s c in
     rw (← e, a) at b

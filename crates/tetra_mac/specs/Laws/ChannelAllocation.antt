@@ -71,6 +71,6 @@ pub channel_allocation-bit : (s : List ℕ) (c : Cursor) {d : ChannelAllocationR
 unfolding channel_allocation_at
 channel_allocation-bit s c e a =
     let b : channel_allocation_bit (channel_allocation_at s c).answer ≤ 65536 =
-    bit-within read_channel_allocation _ _ _ (λ (d : ChannelAllocationRead). channel_allocation_bit d.answer) (λ c e. refl) (λ c r. refl)
+    bit-within read_channel_allocation (λ c' a'. record { cursor = c'; answer = a' }) ChannelAllocationAnswer.Read ChannelAllocationAnswer.Refused (λ (d : ChannelAllocationRead). channel_allocation_bit d.answer) (λ c e. refl) (λ c r. refl)
     (channel_allocation-placed 0) s c in
     rw (← e, a) at b

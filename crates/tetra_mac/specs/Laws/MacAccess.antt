@@ -56,6 +56,6 @@ pub mac_access_bit_lem : (s : List ℕ) (c : Cursor) {d : MacAccessRead} {r : Re
 unfolding mac_access_at read_mac_access read_option read_chosen read_request read_uplink_head read_uplink_body read_uplink_address
 mac_access_bit_lem s c e a =
     let b : mac_access_bit (mac_access_at s c).answer ≤ 65536 =
-    bit-within read_mac_access _ _ _ (λ (d : MacAccessRead). mac_access_bit d.answer) (λ c h. refl) (λ c r. refl)
+    bit-within read_mac_access (λ c' a'. record { cursor = c'; answer = a' }) MacAccessAnswer.Read MacAccessAnswer.Refused (λ (d : MacAccessRead). mac_access_bit d.answer) (λ c h. refl) (λ c r. refl)
     (λ _. (omega arith, λ _ _ _ _ _. (tt, λ _. ((λ _. tt), (λ _ _. tt))))) s c in
     rw (← e, a) at b

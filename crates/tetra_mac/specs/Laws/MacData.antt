@@ -47,6 +47,6 @@ pub mac_data_bit_lem : (s : List ℕ) (c : Cursor) {d : MacDataRead} {r : Refusa
 unfolding mac_data_at read_mac_data read_option read_request read_uplink_head read_uplink_body read_uplink_address
 mac_data_bit_lem s c e a =
     let b : mac_data_bit (mac_data_at s c).answer ≤ 65536 =
-    bit-within read_mac_data _ _ _ (λ (d : MacDataRead). mac_data_bit d.answer) (λ c h. refl) (λ c r. refl)
+    bit-within read_mac_data (λ c' a'. record { cursor = c'; answer = a' }) MacDataAnswer.Read MacDataAnswer.Refused (λ (d : MacDataRead). mac_data_bit d.answer) (λ c h. refl) (λ c r. refl)
     (λ _. (omega arith, λ _ _ _ _ _. ((λ _. tt), (λ _ _ _. tt)))) s c in
     rw (← e, a) at b

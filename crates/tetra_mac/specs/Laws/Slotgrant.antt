@@ -47,5 +47,5 @@ pub slotgrant_bit_lem : (s : List ℕ) (c : Cursor) {d : SlotgrantRead} {r : Ref
 unfolding slotgrant_at read_slotgrant
 slotgrant_bit_lem s c e a =
     let b : slotgrant_bit (slotgrant_at s c).answer ≤ 65536 =
-    bit-within read_slotgrant _ _ _ (λ (d : SlotgrantRead). slotgrant_bit d.answer) (λ c g. refl) (λ c r. refl) (λ v w. tt) s c in
+    bit-within read_slotgrant (λ c' a'. record { cursor = c'; answer = a' }) SlotgrantAnswer.Read SlotgrantAnswer.Refused (λ (d : SlotgrantRead). slotgrant_bit d.answer) (λ c g. refl) (λ c r. refl) (λ v w. tt) s c in
     rw (← e, a) at b

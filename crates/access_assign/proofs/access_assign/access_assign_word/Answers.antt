@@ -1,0 +1,11 @@
+use borrow.Author.Rules.{rules}
+use Rattle.codec.specs.Row.{row_is}
+use Rattle.access_assign.specs.AccessAssign.{access_assign_row}
+use Rattle.access_assign.specs.Laws.AccessAssign.{access_assign_fits}
+use Rattle.access_assign.proofs.access_assign.access_assign_word.Goals as goal
+
+pub returns : goal.returns
+unfolding access_assign_row
+returns c =
+    rw (c.header.ensures.0, c.field_one.ensures.0, c.field_two.ensures.0)
+    (row_is (access_assign_row c.args.a) (access_assign_fits c.args.a c.requires))

@@ -1,0 +1,6 @@
+use native.Mathlib.Omega.{arith}
+use borrow.Author.Rules.{rules}
+use Rattle.access_assign.proofs.access_assign.field_one.Goals as goal
+
+pub returns-in-DownlinkCommonControlUplinkCommonOnly : goal.returns-in-DownlinkCommonControlUplinkCommonOnly
+returns-in-DownlinkCommonControlUplinkCommonOnly c = (rw c.in-DownlinkCommonControlUplinkCommonOnly.is c.into_raw.ensures.0, omega arith)

@@ -1,0 +1,39 @@
+use mathlib.Core.Path.{refl}
+use borrow.Author.Rules.{rules}
+use borrow.Author.Tests.{eq-eqb, ne_eqb}
+use Rattle.tetra_core.specs.Laws.Windows.{good_facts}
+use Rattle.codec.specs.Header.{bad-seen, good-seen, ends}
+use Rattle.codec.specs.Ahead.{next-read}
+use Rattle.access_assign.specs.AccessAssign.{read_access_assign, access_assign_out, access_assign_at}
+use Rattle.access_assign.proofs.access_assign.from_bitbuf.Goals as goal
+
+pub returns-then-not-good_window : goal.returns-then-not-good_window
+unfolding access_assign_at
+returns-then-not-good_window c = rw (bad-seen _ _ c.good_window.ensures c.if-not-good_window.true-raw)
+
+pub load-requires : goal.load-requires
+load-requires c = good_facts _ _ (good-seen _ _ c.good_window.ensures c.if-not-good_window.false-raw)
+
+pub returns-then-refusal-ne0 : goal.returns-then-refusal-ne0
+unfolding access_assign_at
+returns-then-refusal-ne0 c =
+    rw (
+      good-seen _ _ c.good_window.ensures c.if-not-good_window.false-raw,
+      next-read access_assign_out c.read_access_assign-part.ensures c.load.ensures.0 c.load.ensures.2 refl,
+      ne_eqb _ _ c.if-refusal-ne0.true,
+    )
+
+pub moved_by-requires : goal.moved_by-requires
+moved_by-requires c =
+    ends read_access_assign _ _ (good_facts _ _ (good-seen _ _ c.good_window.ensures c.if-not-good_window.false-raw))
+    (rw (eq-eqb _ _ c.if-refusal-ne0.false) at (next-read access_assign_out c.read_access_assign-part.ensures c.load.ensures.0 c.load.ensures.2 refl))
+
+pub returns : goal.returns
+unfolding access_assign_at
+returns c =
+    rw (
+      c.moved_by.ensures,
+      good-seen _ _ c.good_window.ensures c.if-not-good_window.false-raw,
+      next-read access_assign_out c.read_access_assign-part.ensures c.load.ensures.0 c.load.ensures.2 refl,
+      eq-eqb _ _ c.if-refusal-ne0.false,
+    )

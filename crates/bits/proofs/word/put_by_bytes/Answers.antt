@@ -1,0 +1,48 @@
+use mathlib.Core.List.{List}
+use mathlib.Core.Bool.{Bool}
+use native.Mathlib.Nat.{pow-zero, div-one}
+use lib.ListN.{length-set}
+use lib.Pow.{shr-shr}
+use borrow.Author.Rules.{rules}
+use native.Mathlib.Omega.{arith}
+use mathlib.Core.Path.{◌≡◌, refl, sym, ap, ◌∙◌}
+use Prim.Native.Nat.{◌+◌, ◌-◌, ◌/◌, ◌%◌, ◌^◌, ◌≤◌}
+use lib.ListN.{length}
+use Rattle.bits.specs.Bits.{put_bits, bits_of_nat}
+use Rattle.bits.proofs.Words.{put_bits_step}
+use Rattle.bits.specs.Laws.Values.{bits-zero}
+use Rattle.bits.specs.Laws.Writes.{put_bits-nil}
+use Rattle.bits.proofs.word.put_by_bytes.Goals as goal
+
+pub loop-done-init : goal.loop-done-init
+loop-done-init c =
+    let a = c.args in (
+      search rules,
+      refl,
+      sym (ap (λ (xs : List Bool). put_bits a.s.now a.pos xs) (bits-zero _)
+          ∙ put_bits-nil a.s.now a.pos (λ i. omega (arith, c.type_inv.s i))),
+    )
+
+pub loop-done-preserved : goal.loop-done-preserved
+loop-done-preserved c =
+    let a = c.args in
+    let l = c.loop-done in
+    let k = c.min-k.result in
+    let r = a.n - l.done - k in
+    let at = (a.pos + l.done) / 8 in
+    let o = (a.pos + l.done) % 8 in
+    let left : a.n - l.done ≡ r + k = omega arith in
+    let same : a.n - (l.done + k) ≡ r = omega arith in (
+      omega arith,
+      simp length-set l.invariant.1,
+      rw (c.byte_replaced.ensures, same)
+          (put_bits_step a.s.now l.s a.pos l.done at o k (8 - o - k) (a.v / 2 ^ r)
+          (rw (shr-shr a.v r k, ← left) l.invariant.2) (omega arith) (omega arith) (omega arith) (omega arith)),
+    )
+
+pub returns : goal.returns
+returns c =
+    let a = c.args in
+    let e : c.loop-done.done ≡ a.n = omega arith in
+    let z : a.n - c.loop-done.done ≡ 0 = omega arith in
+    c.loop-done.invariant.2 ∙ ap (λ (xs : List Bool). put_bits a.s.now a.pos xs) (rw (z, e, pow-zero, div-one) refl)

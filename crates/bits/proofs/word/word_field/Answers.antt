@@ -1,0 +1,6 @@
+use Rattle.bits.specs.Laws.Shifts as nums
+use borrow.Author.Rules.{rules}
+use Rattle.bits.proofs.word.word_field.Goals as goal
+
+pub returns : goal.returns
+returns c = nums.within-is c.args.x c.args.o c.args.n c.requires.0

@@ -1,0 +1,19 @@
+use mathlib.Core.Path.{sym, ◌∙◌}
+use native.Mathlib.Omega.{arith}
+use borrow.Author.Rules.{rules}
+use Rattle.codec.specs.Piece.{row_holds}
+use Rattle.codec.specs.Encoded.{refused-encodes, piece_encodes}
+use Rattle.mac_access.proofs.mac_access.mac_access_encoded.Goals as goal
+
+pub returns-then-number-ne0 : goal.returns-then-number-ne0
+returns-then-number-ne0 c =
+    let l = c.mac_access_size-bits.ensures in
+    rw (c.refused.ensures, l.0) (refused-encodes c.mac_access_refusal-number.ensures c.if-number-ne0.true (omega arith))
+
+pub returns : goal.returns
+returns c =
+    let l = c.mac_access_size-bits.ensures in
+    rw l.0 (piece_encodes c.mac_access_refusal-number.ensures (omega arith) (row_holds c.mac_access_word.ensures))
+
+pub mac_access_word-requires : goal.mac_access_word-requires
+mac_access_word-requires c = sym c.mac_access_refusal-number.ensures ∙ c.if-number-ne0.false

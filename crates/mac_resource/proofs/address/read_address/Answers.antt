@@ -1,0 +1,45 @@
+use mathlib.Core.Path.{◌∙◌, sym}
+use native.Mathlib.Omega.{arith}
+use borrow.Author.Rules.{rules}
+use Rattle.codec.specs.Ahead.{ready_less, onward, onward-none}
+use Rattle.mac_resource.specs.Address.{address_most, read_address}
+use Rattle.mac_resource.proofs.Words.{address-none, address_parsed, address-short}
+use Rattle.mac_resource.proofs.address.read_address.Goals as goal
+
+pub returns-then-n-eq0 : goal.returns-then-n-eq0
+unfolding read_address
+returns-then-n-eq0 c =
+    let n = address-none c.args.t (sym c.address_len-n.ensures.0 ∙ c.if-n-eq0.true) in
+    (record { of = λ h e. record { means = rw (c.no_refusal.ensures, n) } }, λ z. onward-none address_most)
+
+pub returns-then-left-n : goal.returns-then-left-n
+returns-then-left-n c =
+    let n = c.address_len-n.ensures.0 in (
+      record {
+        of = λ h e. record {
+          means = rw (c.fields_past_end.ensures, address-short c.args.t e (rw n at c.if-left-n.true));
+        };
+      },
+      λ z. absurd (let w = rw c.fields_past_end.ensures at z in omega arith),
+    )
+
+pub advance-requires : goal.advance-requires
+advance-requires c =
+    (ready_less _ c.requires c.address_len-n.ensures.1, c.if-left-n.false)
+
+pub returns : goal.returns
+returns c =
+    let n = c.address_len-n.ensures.0 in (
+      record {
+        of = λ h e. record {
+          means = rw (
+            c.no_refusal-2.ensures,
+            c.address_of.ensures,
+            c.advance.ensures,
+            n,
+            address_parsed c.args.t (rw n at (c.next_bits-x.ensures.word h e c.if-left-n.false)),
+          );
+        };
+      },
+      λ z. rw c.advance.ensures (onward _ address_most c.address_len-n.ensures.1 c.if-left-n.false),
+    )

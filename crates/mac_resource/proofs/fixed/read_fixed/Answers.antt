@@ -1,0 +1,30 @@
+use native.Mathlib.Omega.{arith}
+use borrow.Author.Rules.{rules}
+use borrow.Author.Tests.{eq-eqb, ne_eqb}
+use Rattle.codec.specs.Header.{parsed_word}
+use Rattle.codec.specs.Ahead.{onward}
+use Rattle.mac_resource.specs.Fixed.{fixed_len, read_fixed, read_behind_type}
+use Rattle.mac_resource.proofs.fixed.read_fixed.Goals as goal
+
+pub returns-then-x-ne-RESOURCE : goal.returns-then-x-ne-RESOURCE
+unfolding read_fixed
+returns-then-x-ne-RESOURCE c = (
+  record {
+    of = λ h e. record {
+      means = rw (c.wrong_type.ensures, parsed_word read_fixed (c.next_bits-x.ensures.word h e c.if-left-lt-FIXED_BITS.false), ne_eqb _ _ c.if-x-ne-RESOURCE.true);
+    };
+  },
+  λ z. absurd (let w = rw c.wrong_type.ensures at z in omega arith),
+)
+
+pub returns : goal.returns
+unfolding read_fixed read_behind_type
+returns c =
+    let l = c.if-left-lt-FIXED_BITS.false in (
+      record {
+        of = λ h e. record {
+          means = rw (c.no_refusal.ensures, c.advance.ensures, parsed_word read_fixed (c.next_bits-x.ensures.word h e l), eq-eqb _ _ c.if-x-ne-RESOURCE.false, c.from_raw.ensures);
+        };
+      },
+      λ z. rw c.advance.ensures (onward fixed_len fixed_len (omega arith) l),
+    )

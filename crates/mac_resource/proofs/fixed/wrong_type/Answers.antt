@@ -1,0 +1,5 @@
+use borrow.Author.Rules.{rules}
+use Rattle.mac_resource.proofs.fixed.wrong_type.Goals as goal
+
+pub returns : goal.returns
+returns c = c.refused.ensures

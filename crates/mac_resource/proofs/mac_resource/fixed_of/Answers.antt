@@ -1,0 +1,5 @@
+use borrow.Author.Rules.{rules}
+use Rattle.mac_resource.proofs.mac_resource.fixed_of.Goals as goal
+
+pub returns : goal.returns
+returns c = rw c.addr_type.ensures

@@ -1,0 +1,39 @@
+use mathlib.Core.Path.{◌≡◌, refl}
+use borrow.Author.Rules.{rules}
+use borrow.Author.Tests.{eq-eqb, ne_eqb}
+use Rattle.tetra_core.specs.Laws.Windows.{good_facts}
+use Rattle.codec.specs.Header.{within, bad-seen, good-seen, ends, read}
+use Rattle.codec.specs.Reader.{parse}
+use Rattle.mac_resource.specs.MacResource.{read_mac_resource, mac_resource_out, mac_resource_at}
+use Rattle.mac_resource.proofs.mac_resource.from_bitbuf.Goals.{After-read_mac_resource-part}
+use Rattle.mac_resource.proofs.mac_resource.from_bitbuf.Goals as goal
+
+pub returns-then-not-good_window : goal.returns-then-not-good_window
+unfolding mac_resource_at
+returns-then-not-good_window c = rw (bad-seen _ _ c.good_window.ensures c.if-not-good_window.true-raw)
+
+pub load-requires : goal.load-requires
+load-requires c = good_facts _ _ (good-seen _ _ c.good_window.ensures c.if-not-good_window.false-raw)
+
+pub read_mac_resource-part-requires : goal.read_mac_resource-part-requires
+read_mac_resource-part-requires c = ((good_facts _ _ (good-seen _ _ c.good_window.ensures c.if-not-good_window.false-raw)), c.load.ensures.0, c.load.ensures.1)
+
+-- what was read, as the reader's outcome
+outcome : (c : After-read_mac_resource-part)
+    → let h = within c.args.s.now c.args.c in parse read_mac_resource h 0 ≡ mac_resource_out h c.read_mac_resource-part.result
+outcome c = rw c.load.ensures.2 at (read c.read_mac_resource-part.ensures refl)
+
+pub returns-then-refusal-ne0 : goal.returns-then-refusal-ne0
+unfolding mac_resource_at
+returns-then-refusal-ne0 c =
+    rw (good-seen _ _ c.good_window.ensures c.if-not-good_window.false-raw, outcome (goal.at.returns-then-refusal-ne0 c).After-read_mac_resource-part, ne_eqb _ _ c.if-refusal-ne0.true)
+
+pub moved_by-requires : goal.moved_by-requires
+moved_by-requires c =
+    ends read_mac_resource _ _ (good_facts _ _ (good-seen _ _ c.good_window.ensures c.if-not-good_window.false-raw))
+    (rw (eq-eqb _ _ c.if-refusal-ne0.false) at (outcome (goal.at.moved_by-requires c).After-read_mac_resource-part))
+
+pub returns : goal.returns
+unfolding mac_resource_at
+returns c =
+    rw (c.moved_by.ensures, good-seen _ _ c.good_window.ensures c.if-not-good_window.false-raw, outcome (goal.at.returns c).After-read_mac_resource-part, eq-eqb _ _ c.if-refusal-ne0.false)

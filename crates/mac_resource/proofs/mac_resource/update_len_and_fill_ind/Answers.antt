@@ -1,0 +1,27 @@
+use borrow.Author.Rules.{rules}
+use mathlib.Core.Path.{sym, ◌∙◌}
+use native.Mathlib.Omega.{arith}
+use Prim.Native.Nat.{◌+◌}
+use Rattle.mac_resource.specs.MacResource.{header_len, update_len_and_fill_ind}
+use Rattle.mac_resource.proofs.Counts.{len_and_fill-refused, octets_over}
+use Rattle.mac_resource.proofs.mac_resource.update_len_and_fill_ind.Goals as goal
+
+pub returns-then-number-ne0 : goal.returns-then-number-ne0
+unfolding update_len_and_fill_ind
+returns-then-number-ne0 c = len_and_fill-refused _ _ _ c.length_refusal-number.ensures c.if-number-ne0.true
+
+pub returns-then-sdu_len : goal.returns-then-sdu_len
+unfolding update_len_and_fill_ind
+returns-then-sdu_len c =
+    let d = c.args in
+    rw (sym c.length_refusal-number.ensures ∙ c.if-number-ne0.false, octets_over (header_len d.h + d.sdu_len) (omega arith))
+
+pub returns-in-Counted : goal.returns-in-Counted
+unfolding update_len_and_fill_ind
+returns-in-Counted c =
+    rw (sym c.length_refusal-number.ensures ∙ c.if-number-ne0.false, ← c.header_len.ensures.0, sym c.count_octets.ensures ∙ c.in-Counted.is)
+
+pub returns-in-Refused : goal.returns-in-Refused
+unfolding update_len_and_fill_ind
+returns-in-Refused c =
+    rw (sym c.length_refusal-number.ensures ∙ c.if-number-ne0.false, ← c.header_len.ensures.0, sym c.count_octets.ensures ∙ c.in-Refused.is)

@@ -1,0 +1,5 @@
+use borrow.Author.Rules.{rules}
+use Rattle.optional_elements.proofs.allocation.allocation_refusal.Goals as goal
+
+pub returns-in-Element : goal.returns-in-Element
+returns-in-Element c = rw c.in-Element.is c.channel_allocation_refusal.ensures

@@ -1,0 +1,21 @@
+use borrow.Author.Rules.{rules}
+use Rattle.codec.specs.Header.{alone}
+use Rattle.codec.specs.Ahead.{onward, onward-none, ahead_field-short}
+use Rattle.tetra_fields.specs.UplinkAddress.{read_uplink_address}
+use Rattle.tetra_fields.proofs.fields.uplink_address.read_uplink_address.Goals as goal
+
+pub returns-then-left-n : goal.returns-then-left-n
+unfolding read_uplink_address
+returns-then-left-n c =
+    (record { of = λ h e. record { means = rw (← c.uplink_width-n.ensures.0, ahead_field-short c.uplink_width-n.result e c.if-left-n.true) } }, λ z. onward-none 24)
+
+pub uplink_of-requires : goal.uplink_of-requires
+uplink_of-requires c = rw (← c.uplink_width-n.ensures.0) c.next_bits-v.ensures.small
+
+pub returns : goal.returns
+unfolding read_uplink_address
+returns c =
+    let i = c.if-left-n.false in (
+      record { of = λ h e. record { means = rw (c.uplink_of.ensures, c.advance.ensures, ← c.uplink_width-n.ensures.0, alone (c.next_bits-v.ensures.word h e i)) } },
+      λ z. rw c.advance.ensures (onward c.uplink_width-n.result 24 c.uplink_width-n.ensures.2 i),
+    )
