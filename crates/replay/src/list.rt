@@ -4,13 +4,13 @@ const FAR: usize = 1099511627776;
 
 pub(crate) const UNTOUCHED: u64 = 6148914691236517205;
 
-#[derive(Drop)]
+#[derive(Clone, Copy)]
 pub(crate) struct Number {
     pub(crate) value: u64,
     pub(crate) next: usize,
 }
 
-#[derive(Drop)]
+#[derive(Clone, Copy)]
 pub(crate) struct Words {
     pub(crate) count: usize,
     pub(crate) next: usize,
@@ -18,7 +18,7 @@ pub(crate) struct Words {
 
 // A record as far as the call's numbers: the call, what the original did, where its bytes and numbers stand, and the window. A record
 // stands for as many windows as ends says: from end on, one bit longer each.
-#[derive(Drop)]
+#[derive(Clone, Copy)]
 pub(crate) struct Record {
     pub(crate) call: u64,
     pub(crate) class: u64,
