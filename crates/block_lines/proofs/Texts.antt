@@ -9,7 +9,7 @@ use types.Run.{OneOf}
 use denote.Enum.Declared.{tag_of}
 use lib.ListN.{length, length-map}
 use lib.Seq.{length-take-le}
-use Rattle.io.specs.Counts.{IsPrefixLen}
+use Rattle.block_lines.specs.Counts.{IsPrefixLen}
 use Rattle.text.specs.Put.{Put, AtStart}
 use Rattle.text.specs.Laws.Puts.{then, wider, reads, put_nothing, at-start, start-counts}
 use Rattle.mac_block.specs.declared.reader.BlockEntry.{BlockEntry}

@@ -4,7 +4,7 @@
 
 mod two;
 
-use libc::STDOUT_FILENO;
+use std::io;
 use tetra_core::bitbuffer::{BitsAnswer, Cursor};
 
 const SAMPLE: [u8; 17] = [
@@ -12,30 +12,26 @@ const SAMPLE: [u8; 17] = [
     0x5a,
 ];
 
-fn text(t: &[u8]) {
-    io::write_all(STDOUT_FILENO, t);
+fn text(rt: &impl Print, t: &str) -> io::Result<()> {
+    print!(rt; "{t}")
 }
 
-fn number(before: &[u8], n: u64) {
-    text(before);
-    io::print_decimal(STDOUT_FILENO, n);
+fn number(rt: &impl Print, before: &str, n: u64) -> io::Result<()> {
+    print!(rt; "{before}{n}")
 }
 
-fn answer(a: BitsAnswer) {
+fn answer(rt: &impl Print, a: BitsAnswer) -> io::Result<()> {
     match a {
-        BitsAnswer::Value(v) => {
-            text(b" ");
-            io::print_hex(STDOUT_FILENO, v, 1);
-        }
+        BitsAnswer::Value(v) => print!(rt; " {v:x}"),
         BitsAnswer::Refused(r) => {
-            number(b" refused ", r.number as u64);
-            number(b" ", r.offset as u64);
+            number(rt, " refused ", r.number as u64)?;
+            number(rt, " ", r.offset as u64)
         }
     }
 }
 
 // Reads n bits and then m from a bit of the sample on.
-fn read_from(pos: usize, n: usize, m: usize) {
+fn read_from(rt: &impl Print, pos: usize, n: usize, m: usize) -> io::Result<()> {
     let s = SAMPLE;
     let c = Cursor {
         start: 0,
@@ -46,22 +42,22 @@ fn read_from(pos: usize, n: usize, m: usize) {
     let first = both.first;
     let second = both.second;
     let c = both.cursor;
-    text(b"read_field");
-    answer(first);
-    answer(second);
-    number(b" <", c.start as u64);
-    number(b" ^", c.pos as u64);
-    number(b" >", c.end as u64);
-    text(b"\n");
+    text(rt, "read_field")?;
+    answer(rt, first)?;
+    answer(rt, second)?;
+    number(rt, " <", c.start as u64)?;
+    number(rt, " ^", c.pos as u64)?;
+    number(rt, " >", c.end as u64)?;
+    text(rt, "\n")
 }
 
 // A field that is refused leaves the cursor to the next.
-fn main() {
-    read_from(3, 5, 8);
-    read_from(3, 64, 64);
-    read_from(72, 64, 1);
-    read_from(73, 64, 1);
-    read_from(73, 65, 63);
-    read_from(136, 0, 0);
-    read_from(137, 0, 0);
+fn main(rt: HostRuntime) -> io::Result<()> {
+    read_from(&rt, 3, 5, 8)?;
+    read_from(&rt, 3, 64, 64)?;
+    read_from(&rt, 72, 64, 1)?;
+    read_from(&rt, 73, 64, 1)?;
+    read_from(&rt, 73, 65, 63)?;
+    read_from(&rt, 136, 0, 0)?;
+    read_from(&rt, 137, 0, 0)
 }

@@ -7,58 +7,49 @@ use block_lines::listing::MOST_TEXT;
 use block_lines::{file, listing};
 use block_rules::MOST_BITS;
 use block_rules::to_add::{LengthIndication, ResourceToAdd};
-use libc::STDOUT_FILENO;
 use mac_block::writer;
 use mac_resource::mac_resource::MacResource;
 use optional_elements::allocation::OptionalAllocation;
 use optional_elements::power_control::OptionalPower;
 use optional_elements::slot_granting::OptionalGrant;
+use std::fs::{File, Files};
+use std::io::Write;
+use std::rt::Runtime;
+use std::{env, io};
 use tetra_core::address::{DownlinkAddress, SsiType};
 use tetra_core::bitbuffer::Outcome;
 
-fn text(t: &[u8]) {
-    io::write_all(STDOUT_FILENO, t);
+fn text(rt: &impl Print, t: &[u8]) -> io::Result<()> {
+    io::writer(rt).write_all(t)
 }
 
-fn number(n: u64) {
-    io::print_decimal(STDOUT_FILENO, n);
+fn number(rt: &impl Print, n: u64) -> io::Result<()> {
+    print!(rt; "{n}")
 }
 
-fn list_named(name: &[u8]) {
-    text(name);
-    text(b"\n");
-    let fd = os::open_read(name);
-    if fd < 0 {
-        os::fail(name);
-        return;
-    }
+fn list_named<R: Print + Eprint + Files>(rt: &R, name: &str) -> io::Result<()> {
+    println!(rt; "{name}")?;
     let mut input = [0u8; MOST_BYTES];
-    let got = file::read_file(fd, &mut input);
-    libc::close(fd);
+    let got = match File::open(rt, name) {
+        Ok(mut opened) => file::read_file(&mut opened, &mut input)?,
+        Err(e) => return eprintln!(rt; "{name}: {e}"),
+    };
     let mut out = [0u8; MOST_TEXT];
     let length = file::list_file(&input[..got], &mut out);
-    text(&out[..length]);
+    text(rt, &out[..length])
 }
 
-fn list_argument(i: usize) {
-    let mut name = io::buffer();
-    let length = os::arg(i, &mut name);
-    list_named(&name[..length]);
-}
-
-fn list_arguments() {
-    let count = os::arg_count();
-    let mut i = 1;
-    while i < count {
-        list_argument(i);
-        i += 1;
+fn list_arguments<R: Runtime>(rt: &R) -> io::Result<()> {
+    for name in env::args(rt)?.skip(1) {
+        list_named(rt, name.as_str())?;
     }
+    Ok(())
 }
 
-fn list(block: &[u8]) {
+fn list(rt: &impl Print, block: &[u8]) -> io::Result<()> {
     let mut out = [0u8; MOST_TEXT];
     let length = listing::list_block(block, MOST_BITS, &mut out);
-    text(&out[..length]);
+    text(rt, &out[..length])
 }
 
 // A header of 43 bits: SSI 1, no elements.
@@ -86,31 +77,31 @@ fn length_of(first: u8, second: u8) -> u64 {
 }
 
 // One PDU with so many bits of content, added to a block of 488 bits: its number of octets and the listing, or what refuses it.
-fn add_one(content_bits: usize) {
+fn add_one(rt: &impl Print, content_bits: usize) -> io::Result<()> {
     let content = [255u8; 56];
     let mut block = [0u8; 61];
-    text(b"add ");
-    number(content_bits as u64);
+    text(rt, b"add ")?;
+    number(rt, content_bits as u64)?;
     let written = writer::add(&mut block, MOST_BITS, 0, to_ssi_1(), &content, content_bits);
     let answer = written.answer;
     match answer {
         Outcome::Done => {
-            text(b" octets ");
-            number(length_of(block[0], block[1]));
-            text(b"\n");
-            list(&block);
+            text(rt, b" octets ")?;
+            number(rt, length_of(block[0], block[1]))?;
+            text(rt, b"\n")?;
+            list(rt, &block)
         }
         Outcome::Refused(n) => {
-            text(b" refused ");
-            number(word::widen(n));
-            text(b"\n");
+            text(rt, b" refused ")?;
+            number(rt, word::widen(n))?;
+            text(rt, b"\n")
         }
     }
 }
 
-fn main() {
-    list_arguments();
+fn main(rt: HostRuntime) -> io::Result<()> {
+    list_arguments(&rt)?;
     // 43 and 445 bits are 488; one more is refused.
-    add_one(445);
-    add_one(446);
+    add_one(&rt, 445)?;
+    add_one(&rt, 446)
 }

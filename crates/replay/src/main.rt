@@ -5,11 +5,13 @@
 mod list;
 mod names;
 
-use libc::{STDIN_FILENO, STDOUT_FILENO};
 use list::Record;
 use names::{digits, text};
 use replay_calls::answers;
+use std::io;
+use std::io::Read;
 use tetra_core::bitbuffer::Cursor;
+use text::input;
 
 // ---- counting: for each call the cases that are equal, refused by both, refused by both at the same bit, a listed difference, and not as
 // recorded; at 640 all cases
@@ -65,31 +67,31 @@ fn different(counts: &[u64; 641]) -> u64 {
     sum
 }
 
-fn row(counts: &[u64; 641], call: u64) {
+fn row(rt: &impl Print, counts: &[u64; 641], call: u64) -> io::Result<()> {
     let refused = counted(counts, place(call, 1));
     let stopped = counted(counts, place(call, 2));
     let different = counted(counts, place(call, 4));
     if !names::call_known(call) {
-        return;
+        return Ok(());
     }
-    names::name(call);
-    text(b":");
-    digits(counted(counts, place(call, 0)));
-    text(b" equal,");
-    digits(std::num::wrapping_add_u64(refused, stopped));
-    text(b" refused by both,");
+    names::name(rt, call)?;
+    text(rt, ":")?;
+    digits(rt, counted(counts, place(call, 0)))?;
+    text(rt, " equal,")?;
+    digits(rt, std::num::wrapping_add_u64(refused, stopped))?;
+    text(rt, " refused by both,")?;
     if 0 < stopped {
-        digits(stopped);
-        text(b" of these at the same bit,");
+        digits(rt, stopped)?;
+        text(rt, " of these at the same bit,")?;
     }
-    digits(counted(counts, place(call, 3)));
-    text(b" listed differences");
+    digits(rt, counted(counts, place(call, 3)))?;
+    text(rt, " listed differences")?;
     if 0 < different {
-        text(b",");
-        digits(different);
-        text(b" DIFFERENT");
+        text(rt, ",")?;
+        digits(rt, different)?;
+        text(rt, " DIFFERENT")?;
     }
-    text(b"\n");
+    text(rt, "\n")
 }
 
 // ---- comparing
@@ -154,68 +156,69 @@ fn status_agrees(call: u64, class: u64, status: u64, bit: u64) -> bool {
     agrees(class, refusal(call, status))
 }
 
-fn case(n: u64, call: u64) {
-    text(b"case");
-    digits(n);
-    text(b", ");
-    names::name(call);
-    text(b":");
+fn case(rt: &impl Print, n: u64, call: u64) -> io::Result<()> {
+    text(rt, "case")?;
+    digits(rt, n)?;
+    text(rt, ", ")?;
+    names::name(rt, call)?;
+    text(rt, ":")
 }
 
-fn told(ours: u64, theirs: u64) {
-    text(b" is");
-    digits(ours);
-    text(b", recorded");
-    digits(theirs);
-    text(b"\n");
+fn told(rt: &impl Print, ours: u64, theirs: u64) -> io::Result<()> {
+    text(rt, " is")?;
+    digits(rt, ours)?;
+    text(rt, ", recorded")?;
+    digits(rt, theirs)?;
+    text(rt, "\n")
 }
 
-fn told_status(status: u64, class: u64, bit: u64) {
-    text(b" status");
-    digits(status % 256);
-    text(b" at bit");
-    digits(status / 256);
+fn told_status(rt: &impl Print, status: u64, class: u64, bit: u64) -> io::Result<()> {
+    text(rt, " status")?;
+    digits(rt, status % 256)?;
+    text(rt, " at bit")?;
+    digits(rt, status / 256)?;
     match class {
-        0 => text(b", recorded as completed"),
-        1 => text(b", recorded as refused"),
+        0 => text(rt, ", recorded as completed")?,
+        1 => text(rt, ", recorded as refused")?,
         2 => {
-            text(b", recorded as 1 at bit");
-            digits(bit);
+            text(rt, ", recorded as 1 at bit")?;
+            digits(rt, bit)?;
         }
         33..=46 => {
-            text(b", recorded as");
-            digits(class - 32);
+            text(rt, ", recorded as")?;
+            digits(rt, class - 32)?;
         }
-        _ => text(b", recorded as a listed difference"),
+        _ => text(rt, ", recorded as a listed difference")?,
     }
-    text(b"\n");
+    text(rt, "\n")
 }
 
 fn same(
+    rt: &impl Print,
     n: u64,
     call: u64,
     out: &[u64; 40],
     want: &[u64; 40],
     bytes: &[u8; 128],
     left: &[u8; 128],
-) -> bool {
+) -> io::Result<bool> {
     let i = differing_word(out, want);
     if i < 40 {
-        case(n, call);
-        text(b" word");
-        digits(i as u64);
-        told(out[i], want[i]);
-        return false;
+        case(rt, n, call)?;
+        text(rt, " word")?;
+        digits(rt, i as u64)?;
+        told(rt, out[i], want[i])?;
+        return Ok(false);
     }
     let j = differing_byte(bytes, left);
     if j < 128 {
-        case(n, call);
-        text(b" byte");
-        digits(j as u64);
-        told(bits::word::widen(bytes[j]), bits::word::widen(left[j]));
-        return false;
+        case(rt, n, call)?;
+        text(rt, " byte")?;
+        digits(rt, j as u64)?;
+        told(rt, bits::word::widen(bytes[j]), bits::word::widen(left[j]))?;
+        return Ok(false);
     }
-    true
+    Ok(true)
 }
 
 // ---- a record
@@ -340,7 +343,7 @@ fn end_of(end: usize, i: u64) -> usize {
 }
 
 // The call on window i of a record, case n of all: whether it answers as recorded.
-fn answers(s: &[u8], r: Record, i: u64, n: u64) -> bool {
+fn answers(rt: &impl Print, s: &[u8], r: Record, i: u64, n: u64) -> io::Result<bool> {
     let mut given = list::no_bytes();
     let mut bytes = list::no_bytes();
     let mut words = list::untouched();
@@ -355,11 +358,11 @@ fn answers(s: &[u8], r: Record, i: u64, n: u64) -> bool {
     let status = call(r, end, &given, &mut bytes, &words, w.count, &mut out);
     let bit = stop(s, r.class, w.next, i);
     if !status_agrees(r.call, r.class, status, bit) {
-        case(n, r.call);
-        told_status(status, r.class, bit);
-        return false;
+        case(rt, n, r.call)?;
+        told_status(rt, status, r.class, bit)?;
+        return Ok(false);
     }
-    same(n, r.call, &out, &want, &bytes, &left)
+    same(rt, n, r.call, &out, &want, &bytes, &left)
 }
 
 // Refusals are numbered 1 to 14.
@@ -400,25 +403,32 @@ fn well_formed(s: &[u8], r: Record, last: usize) -> bool {
 }
 
 // The calls of a record, one for each end that it stands for.
-fn ends(s: &[u8], r: Record, counts: &mut [u64; 641]) {
+fn ends(rt: &impl Print, s: &[u8], r: Record, counts: &mut [u64; 641]) -> io::Result<()> {
     let times = r.ends;
     let mut i: usize = 0;
     while i < times {
         let n = counted(counts, 640);
-        let right = answers(s, r, i as u64, n);
+        let right = answers(rt, s, r, i as u64, n)?;
         count(counts, r.call, r.class, right);
         i += 1;
     }
+    Ok(())
 }
 
 // The record from first to last, unless it is malformed.
-fn replayed(s: &[u8], first: usize, last: usize, counts: &mut [u64; 641]) -> bool {
+fn replayed(
+    rt: &impl Print,
+    s: &[u8],
+    first: usize,
+    last: usize,
+    counts: &mut [u64; 641],
+) -> io::Result<bool> {
     let r = list::take_record(s, first);
     if !well_formed(s, r, last) {
-        return false;
+        return Ok(false);
     }
-    ends(s, r, counts);
-    true
+    ends(rt, s, r, counts)?;
+    Ok(true)
 }
 
 // ---- the list
@@ -442,30 +452,30 @@ fn fills(last: usize, len: usize) -> bool {
 }
 
 // Replays the records of a page up to that of length 0.
-fn replay(s: &[u8], counts: &mut [u64; 641]) -> Ended {
+fn replay(rt: &impl Print, s: &[u8], counts: &mut [u64; 641]) -> io::Result<Ended> {
     let mut at: usize = 0;
     while at < s.len() {
         let length = list::take(s, at);
         let first = length.next;
         let last = list::ahead(first, length.value);
         if last <= at {
-            return Ended { whole: false, at };
+            return Ok(Ended { whole: false, at });
         }
         if s.len() < last {
-            return Ended { whole: false, at };
+            return Ok(Ended { whole: false, at });
         }
         if length.value == 0 {
-            return Ended {
+            return Ok(Ended {
                 whole: fills(last, s.len()),
                 at: last,
-            };
+            });
         }
-        if !replayed(s, first, last, counts) {
-            return Ended { whole: false, at };
+        if !replayed(rt, s, first, last, counts)? {
+            return Ok(Ended { whole: false, at });
         }
         at = last;
     }
-    Ended { whole: false, at }
+    Ok(Ended { whole: false, at })
 }
 
 // What came of a page: nothing to read, replayed, or malformed at a byte.
@@ -476,62 +486,65 @@ enum Page {
     Malformed(usize),
 }
 
-fn next_page(counts: &mut [u64; 641]) -> Page {
+fn next_page<R: Read>(rt: &impl Print, from: &mut R, counts: &mut [u64; 641]) -> io::Result<Page> {
     let mut room = [0u8; 16384];
-    let n = io::read_full(STDIN_FILENO, &mut room);
+    let n = input::read_full(from, &mut room)?;
     if n == 0 {
-        return Page::Nothing;
+        return Ok(Page::Nothing);
     }
-    let ended = replay(&room[..n], counts);
+    let ended = replay(rt, &room[..n], counts)?;
     if ended.whole {
-        return Page::Replayed;
+        return Ok(Page::Replayed);
     }
-    Page::Malformed(ended.at)
+    Ok(Page::Malformed(ended.at))
 }
 
-fn malformed(page: u64, at: u64) {
-    text(b"MALFORMED list, page");
-    digits(page);
-    text(b" at byte");
-    digits(at);
-    text(b"\n");
+fn malformed(rt: &impl Print, page: u64, at: u64) -> io::Result<()> {
+    text(rt, "MALFORMED list, page")?;
+    digits(rt, page)?;
+    text(rt, " at byte")?;
+    digits(rt, at)?;
+    text(rt, "\n")
 }
 
 // All pages, one after the other: a list has one at least.
-fn pages(counts: &mut [u64; 641]) {
+fn pages<R: Read>(rt: &impl Print, from: &mut R, counts: &mut [u64; 641]) -> io::Result<()> {
     let mut page: u64 = 0;
     while page < 1048576 {
-        match next_page(counts) {
+        match next_page(rt, from, counts)? {
             Page::Nothing => {
                 if page == 0 {
-                    malformed(page, 0);
+                    malformed(rt, page, 0)?;
                 }
-                return;
+                return Ok(());
             }
             Page::Replayed => {}
             Page::Malformed(at) => {
-                malformed(page, at as u64);
-                return;
+                malformed(rt, page, at as u64)?;
+                return Ok(());
             }
         }
         page += 1;
     }
+    Ok(())
 }
 
-fn rows(counts: &[u64; 641]) {
+fn rows(rt: &impl Print, counts: &[u64; 641]) -> io::Result<()> {
     let mut call: u64 = 0;
     while call < 128 {
-        row(counts, call);
+        row(rt, counts, call)?;
         call += 1;
     }
+    Ok(())
 }
 
-fn main() {
+fn main(rt: HostRuntime) -> io::Result<()> {
     let mut counts = [0u64; 641];
-    pages(&mut counts);
-    rows(&counts);
-    io::print_decimal(STDOUT_FILENO, counted(&counts, 640));
-    text(b" cases,");
-    digits(different(&counts));
-    text(b" differences\n");
+    pages(&rt, &mut rt.stdin(), &mut counts)?;
+    rows(&rt, &counts)?;
+    let cases = counted(&counts, 640);
+    print!(rt; "{cases}")?;
+    text(&rt, " cases,")?;
+    digits(&rt, different(&counts))?;
+    text(&rt, " differences\n")
 }

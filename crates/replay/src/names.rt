@@ -1,160 +1,159 @@
 // What is written: texts, numbers and the names of the calls.
-use libc::STDOUT_FILENO;
+use std::io;
 
-pub(crate) fn text(t: &[u8]) {
-    io::write_all(STDOUT_FILENO, t);
+pub(crate) fn text(rt: &impl Print, t: &str) -> io::Result<()> {
+    print!(rt; "{t}")
 }
 
-pub(crate) fn digits(n: u64) {
-    text(b" ");
-    io::print_decimal(STDOUT_FILENO, n);
+pub(crate) fn digits(rt: &impl Print, n: u64) -> io::Result<()> {
+    print!(rt; " {n}")
 }
 
-fn kind(k: u64) {
+fn kind(rt: &impl Print, k: u64) -> io::Result<()> {
     match k {
-        0 => text(b" slot grant"),
-        1 => text(b" channel allocation"),
-        2 => text(b" MAC-RESOURCE"),
-        3 => text(b" ACCESS-ASSIGN"),
-        4 => text(b" MAC-ACCESS"),
-        5 => text(b" MAC-DATA"),
-        _ => text(b" unknown"),
+        0 => text(rt, " slot grant"),
+        1 => text(rt, " channel allocation"),
+        2 => text(rt, " MAC-RESOURCE"),
+        3 => text(rt, " ACCESS-ASSIGN"),
+        4 => text(rt, " MAC-ACCESS"),
+        5 => text(rt, " MAC-DATA"),
+        _ => text(rt, " unknown"),
     }
 }
 
-fn c_call(call: u64) {
+fn c_call(rt: &impl Print, call: u64) -> io::Result<()> {
     match call {
-        32 => text(b"read_bits"),
-        33 => text(b"peek_bits_posoffset"),
-        34 => text(b"write_bits"),
-        40 => text(b"compute_len"),
-        41 => text(b"compute_header_len"),
-        42 => text(b"update_len_and_fill_ind"),
-        _ => text(b"unknown"),
+        32 => text(rt, "read_bits"),
+        33 => text(rt, "peek_bits_posoffset"),
+        34 => text(rt, "write_bits"),
+        40 => text(rt, "compute_len"),
+        41 => text(rt, "compute_header_len"),
+        42 => text(rt, "update_len_and_fill_ind"),
+        _ => text(rt, "unknown"),
     }
 }
 
-fn window_call(call: u64) {
+fn window_call(rt: &impl Print, call: u64) -> io::Result<()> {
     match call {
-        48 => text(b"read_bit"),
-        49 => text(b"peek_bits"),
-        50 => text(b"peek_bits_startoffset"),
-        51 => text(b"get_len"),
-        52 => text(b"get_len_remaining"),
-        53 => text(b"get_len_written"),
-        54 => text(b"get_pos"),
-        55 => text(b"get_raw_start"),
-        56 => text(b"get_raw_end"),
-        57 => text(b"get_raw_pos"),
-        58 => text(b"new"),
-        _ => text(b"from_bytes"),
+        48 => text(rt, "read_bit"),
+        49 => text(rt, "peek_bits"),
+        50 => text(rt, "peek_bits_startoffset"),
+        51 => text(rt, "get_len"),
+        52 => text(rt, "get_len_remaining"),
+        53 => text(rt, "get_len_written"),
+        54 => text(rt, "get_pos"),
+        55 => text(rt, "get_raw_start"),
+        56 => text(rt, "get_raw_end"),
+        57 => text(rt, "get_raw_pos"),
+        58 => text(rt, "new"),
+        _ => text(rt, "from_bytes"),
     }
 }
 
-fn moving_call(call: u64) {
+fn moving_call(rt: &impl Print, call: u64) -> io::Result<()> {
     match call {
-        60 => text(b"seek"),
-        61 => text(b"seek_rel"),
-        62 => text(b"set_raw_start"),
-        63 => text(b"set_raw_end"),
-        64 => text(b"set_raw_pos"),
-        68 => text(b"write_bit"),
-        69 => text(b"write_zeroes"),
-        70 => text(b"write_ones"),
-        72 => text(b"read_bits_into_slice"),
-        73 => text(b"to_bitarr"),
-        74 => text(b"copy_bits"),
-        75 => text(b"copy_bits_from_bitarr"),
-        _ => text(b"into_bitvec"),
+        60 => text(rt, "seek"),
+        61 => text(rt, "seek_rel"),
+        62 => text(rt, "set_raw_start"),
+        63 => text(rt, "set_raw_end"),
+        64 => text(rt, "set_raw_pos"),
+        68 => text(rt, "write_bit"),
+        69 => text(rt, "write_zeroes"),
+        70 => text(rt, "write_ones"),
+        72 => text(rt, "read_bits_into_slice"),
+        73 => text(rt, "to_bitarr"),
+        74 => text(rt, "copy_bits"),
+        75 => text(rt, "copy_bits_from_bitarr"),
+        _ => text(rt, "into_bitvec"),
     }
 }
 
-fn code_call(call: u64) {
+fn code_call(rt: &impl Print, call: u64) -> io::Result<()> {
     match call {
-        80 => text(b"codes of BasicSlotgrantCapAlloc"),
-        81 => text(b"codes of BasicSlotgrantGrantingDelay"),
-        82 => text(b"code of a delay count"),
-        83 => text(b"codes of ReservationRequirement, to_req_slotcount"),
-        84 => text(b"reservation, from_req_slotcount"),
-        85 => text(b"codes of AccessCode"),
-        86 => text(b"codes of BaseFrameLength"),
-        87 => text(b"codes of AccessField"),
-        88 => text(b"codes of MacResourceAddrType"),
-        89 => text(b"capacity, from_req_slotcount"),
-        _ => text(b"capacity, to_req_slotcount"),
+        80 => text(rt, "codes of BasicSlotgrantCapAlloc"),
+        81 => text(rt, "codes of BasicSlotgrantGrantingDelay"),
+        82 => text(rt, "code of a delay count"),
+        83 => text(rt, "codes of ReservationRequirement, to_req_slotcount"),
+        84 => text(rt, "reservation, from_req_slotcount"),
+        85 => text(rt, "codes of AccessCode"),
+        86 => text(rt, "codes of BaseFrameLength"),
+        87 => text(rt, "codes of AccessField"),
+        88 => text(rt, "codes of MacResourceAddrType"),
+        89 => text(rt, "capacity, from_req_slotcount"),
+        _ => text(rt, "capacity, to_req_slotcount"),
     }
 }
 
-fn address_call(call: u64) {
+fn address_call(rt: &impl Print, call: u64) -> io::Result<()> {
     match call {
-        91 => text(b"downlink address, new"),
-        92 => text(b"downlink address, issi"),
-        93 => text(b"uplink address, new"),
-        _ => text(b"uplink address, issi"),
+        91 => text(rt, "downlink address, new"),
+        92 => text(rt, "downlink address, issi"),
+        93 => text(rt, "uplink address, new"),
+        _ => text(rt, "uplink address, issi"),
     }
 }
 
-fn usage_call(call: u64) {
+fn usage_call(rt: &impl Print, call: u64) -> io::Result<()> {
     match call {
-        96 => text(b"downlink from_usage_marker"),
-        97 => text(b"downlink to_usage_marker"),
-        98 => text(b"downlink is_traffic"),
-        99 => text(b"downlink get_tchan"),
-        100 => text(b"uplink from_usage_marker"),
-        101 => text(b"uplink to_usage_marker"),
-        102 => text(b"uplink is_traffic"),
-        103 => text(b"uplink get_tchan"),
-        104 => text(b"dl_is_traffic"),
-        105 => text(b"MAC-ACCESS is_null_pdu, is_frag_start"),
-        106 => text(b"MAC-RESOURCE is_null_pdu"),
-        _ => text(b"unknown"),
+        96 => text(rt, "downlink from_usage_marker"),
+        97 => text(rt, "downlink to_usage_marker"),
+        98 => text(rt, "downlink is_traffic"),
+        99 => text(rt, "downlink get_tchan"),
+        100 => text(rt, "uplink from_usage_marker"),
+        101 => text(rt, "uplink to_usage_marker"),
+        102 => text(rt, "uplink is_traffic"),
+        103 => text(rt, "uplink get_tchan"),
+        104 => text(rt, "dl_is_traffic"),
+        105 => text(rt, "MAC-ACCESS is_null_pdu, is_frag_start"),
+        106 => text(rt, "MAC-RESOURCE is_null_pdu"),
+        _ => text(rt, "unknown"),
     }
 }
 
-fn last_call(call: u64) {
+fn last_call(rt: &impl Print, call: u64) -> io::Result<()> {
     match call {
-        107 => text(b"ACCESS-ASSIGN default"),
-        108 => text(b"null_pdu"),
-        109 => text(b"constants"),
-        110 => text(b"MAC-RESOURCE default"),
-        112 => text(b"block, step"),
-        113 => text(b"block, add"),
-        _ => text(b"block, finish"),
+        107 => text(rt, "ACCESS-ASSIGN default"),
+        108 => text(rt, "null_pdu"),
+        109 => text(rt, "constants"),
+        110 => text(rt, "MAC-RESOURCE default"),
+        112 => text(rt, "block, step"),
+        113 => text(rt, "block, add"),
+        _ => text(rt, "block, finish"),
     }
 }
 
-fn later(call: u64) {
+fn later(rt: &impl Print, call: u64) -> io::Result<()> {
     if call < 60 {
-        return window_call(call);
+        return window_call(rt, call);
     }
     if call < 80 {
-        return moving_call(call);
+        return moving_call(rt, call);
     }
     if call < 91 {
-        return code_call(call);
+        return code_call(rt, call);
     }
     if call < 96 {
-        return address_call(call);
+        return address_call(rt, call);
     }
     if call < 107 {
-        return usage_call(call);
+        return usage_call(rt, call);
     }
-    last_call(call)
+    last_call(rt, call)
 }
 
-pub(crate) fn name(call: u64) {
+pub(crate) fn name(rt: &impl Print, call: u64) -> io::Result<()> {
     if call < 16 {
-        text(b"read");
-        return kind(call);
+        text(rt, "read")?;
+        return kind(rt, call);
     }
     if call < 32 {
-        text(b"write");
-        return kind(call - 16);
+        text(rt, "write")?;
+        return kind(rt, call - 16);
     }
     if call < 48 {
-        return c_call(call);
+        return c_call(rt, call);
     }
-    later(call)
+    later(rt, call)
 }
 
 pub(crate) fn call_known(call: u64) -> bool {

@@ -1,6 +1,8 @@
 // Text, put into lent bytes from a place on. Each call answers the place behind its text, so that the next one goes on there. Where the bytes
-// end, the text is cut off, so that no call asks for room.
+// end, the text is cut off, so that no call asks for room. And input, read into lent bytes.
 #![tactic(auto)]
+
+pub mod input;
 
 ghost use Rattle.std.specs.Prelude.{[], ◌∷◌, ◌+◌, length};
 ghost use Rattle.text.specs.Put.{Put};
