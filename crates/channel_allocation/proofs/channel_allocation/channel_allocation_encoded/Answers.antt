@@ -1,6 +1,5 @@
 use mathlib.Core.Path.{refl, sym, ◌∙◌}
 use native.Mathlib.Omega.{arith}
-use borrow.Author.Rules.{rules}
 use Rattle.codec.specs.Encoded.{refused-encodes, piece_encodes}
 use Rattle.channel_allocation.proofs.channel_allocation.channel_allocation_encoded.Goals as goal
 

@@ -1,7 +1,6 @@
 use mathlib.Core.Path.{◌≡◌, refl}
 use mathlib.Core.List.{[], ◌∷◌}
 use native.Mathlib.Omega.{arith}
-use borrow.Author.Rules.{rules}
 use borrow.Author.Tests.{lt-ltb, le-ltb}
 use Rattle.tetra_core.specs.Refusal.{first, first_skip, first-here, first_last}
 use Rattle.channel_allocation.specs.ChannelAllocation.{frame18_refusal, len_refusal, channel_allocation_refusal}

@@ -1,6 +1,5 @@
 use mathlib.Core.Path.{ap, ◌∙◌}
 use mathlib.Core.List.{[], ◌∷◌, ◌++◌, append_assoc}
-use borrow.Author.Rules.{rules}
 use borrow.Author.Tests.{eq-eqb, ne_eqb}
 use Rattle.codec.specs.Row.{cell, row_bits, row_is, rows_append, rows_joined}
 use Rattle.channel_allocation.specs.ChannelAllocation.{frame18_number, head_row, patterns_row, channel_allocation_bits, channel_allocation_len}

@@ -1,5 +1,4 @@
 use mathlib.Core.Path.{sym, ◌∙◌}
-use borrow.Author.Rules.{rules}
 use Rattle.channel_allocation.specs.ChannelAllocation.{compute_len}
 use Rattle.channel_allocation.specs.Laws.ChannelAllocation.{len-refused}
 use Rattle.channel_allocation.proofs.channel_allocation.compute_len.Goals as goal

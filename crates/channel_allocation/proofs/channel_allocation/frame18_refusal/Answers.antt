@@ -1,5 +1,4 @@
 use native.Mathlib.Omega.{arith}
-use borrow.Author.Rules.{rules}
 use borrow.Author.Tests.{eq-eqb, ne_eqb, lt-ltb, le-ltb}
 use Rattle.channel_allocation.specs.ChannelAllocation.{frame18_refusal}
 use Rattle.channel_allocation.proofs.channel_allocation.frame18_refusal.Goals as goal

@@ -1,4 +1,3 @@
-use borrow.Author.Rules.{rules}
 use Rattle.codec.specs.Row.{row_is}
 use Rattle.channel_allocation.specs.ChannelAllocation.{head_row}
 use Rattle.channel_allocation.specs.Laws.ChannelAllocation.{head_fits}

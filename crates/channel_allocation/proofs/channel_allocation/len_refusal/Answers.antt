@@ -1,4 +1,3 @@
-use borrow.Author.Rules.{rules}
 use Rattle.channel_allocation.specs.ChannelAllocation.{len_refusal}
 use Rattle.channel_allocation.proofs.channel_allocation.len_refusal.Goals as goal
 

@@ -1,4 +1,3 @@
-use borrow.Author.Rules.{rules}
 use Rattle.channel_allocation.proofs.channel_allocation.patterns_refused.Goals as goal
 
 pub returns : goal.returns

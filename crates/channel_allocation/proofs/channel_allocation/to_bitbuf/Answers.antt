@@ -1,4 +1,3 @@
-use borrow.Author.Rules.{rules}
 use Rattle.codec.specs.Encoded.{encoded_written}
 use Rattle.channel_allocation.proofs.channel_allocation.to_bitbuf.Goals as goal
 

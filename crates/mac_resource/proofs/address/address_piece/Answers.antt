@@ -1,4 +1,3 @@
-use borrow.Author.Rules.{rules}
 use Rattle.mac_resource.proofs.address.address_piece.Goals as goal
 
 pub returns : goal.returns

@@ -1,4 +1,3 @@
-use borrow.Author.Rules.{rules}
 use Rattle.mac_resource.proofs.address.address_refusal.Goals as goal
 
 pub returns-in-Ssi : goal.returns-in-Ssi

@@ -1,4 +1,3 @@
-use borrow.Author.Rules.{rules}
 use Rattle.mac_resource.proofs.address.address_word.Goals as goal
 
 pub returns-in-SsiAndEventLabel : goal.returns-in-SsiAndEventLabel

@@ -1,5 +1,4 @@
 use mathlib.Core.Path.{◌∙◌, sym}
-use borrow.Author.Rules.{rules}
 use borrow.Author.Tests.{lt-ltb, le-ltb}
 use Rattle.tetra_core.specs.Refusal.{first, first_last}
 use Rattle.mac_resource.proofs.address.pair_refusal.Goals as goal

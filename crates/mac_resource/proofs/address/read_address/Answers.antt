@@ -1,6 +1,5 @@
 use mathlib.Core.Path.{◌∙◌, sym}
 use native.Mathlib.Omega.{arith}
-use borrow.Author.Rules.{rules}
 use Rattle.codec.specs.Ahead.{ready_less, onward, onward-none}
 use Rattle.mac_resource.specs.Address.{address_most, read_address}
 use Rattle.mac_resource.proofs.Words.{address-none, address_parsed, address-short}

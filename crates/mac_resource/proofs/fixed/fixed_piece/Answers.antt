@@ -1,4 +1,3 @@
-use borrow.Author.Rules.{rules}
 use Rattle.mac_resource.specs.Laws.Fixed.{fixed-is}
 use Rattle.codec.specs.Piece.{row_holds}
 use Rattle.mac_resource.proofs.fixed.fixed_piece.Goals as goal

@@ -1,4 +1,3 @@
-use borrow.Author.Rules.{rules}
 use Rattle.mac_resource.specs.Fixed.{fixed_row}
 use Rattle.mac_resource.proofs.fixed.fixed_word.Goals as goal
 

@@ -1,4 +1,3 @@
-use borrow.Author.Rules.{rules}
 use Rattle.mac_resource.proofs.fixed.wrong_type.Goals as goal
 
 pub returns : goal.returns

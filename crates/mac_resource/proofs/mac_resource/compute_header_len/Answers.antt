@@ -1,4 +1,3 @@
-use borrow.Author.Rules.{rules}
 use mathlib.Core.Path.{sym, ◌∙◌}
 use Rattle.mac_resource.specs.MacResource.{compute_header_len}
 use Rattle.mac_resource.proofs.Counts.{len-refused}

@@ -1,4 +1,3 @@
-use borrow.Author.Rules.{rules}
 use Rattle.mac_resource.specs.Laws.Encoded.{add-encodes}
 use Rattle.mac_resource.proofs.mac_resource.encode_to_add.Goals as goal
 

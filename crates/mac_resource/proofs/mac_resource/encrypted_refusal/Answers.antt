@@ -1,6 +1,5 @@
-use borrow.Author.Rules.{rules}
 use mathlib.Core.Path.{sym, ◌∙◌}
-use borrow.Author.Tests.{not-true, not-false, eq-eqb, ne_eqb}
+use borrow.Author.Tests.{eq-eqb, ne_eqb}
 use Rattle.mac_resource.specs.MacResource.{encrypted_refusal}
 use Rattle.mac_resource.proofs.mac_resource.encrypted_refusal.Goals as goal
 

@@ -1,4 +1,3 @@
-use borrow.Author.Rules.{rules}
 use Rattle.mac_resource.proofs.mac_resource.front_alone.Goals as goal
 
 pub returns : goal.returns

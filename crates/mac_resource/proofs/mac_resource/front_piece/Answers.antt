@@ -1,4 +1,3 @@
-use borrow.Author.Rules.{rules}
 use native.Mathlib.Omega.{arith}
 use Rattle.mac_resource.specs.Laws.Address.{address_most_lem}
 use Rattle.mac_resource.specs.Address.{type_of}

@@ -1,4 +1,3 @@
-use borrow.Author.Rules.{rules}
 use mathlib.Core.Path.{sym, ◌∙◌}
 use Rattle.mac_resource.specs.MacResource.{length_refusal}
 use Rattle.mac_resource.proofs.mac_resource.length_refusal.Goals as goal

@@ -1,4 +1,3 @@
-use borrow.Author.Rules.{rules}
 use mathlib.Core.Path.{sym, ◌∙◌}
 use Rattle.mac_resource.specs.Laws.Encoded.{null-encodes}
 use Rattle.mac_resource.proofs.mac_resource.rest_encoded.Goals as goal

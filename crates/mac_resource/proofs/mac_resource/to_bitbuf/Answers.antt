@@ -1,4 +1,3 @@
-use borrow.Author.Rules.{rules}
 use Rattle.codec.specs.Encoded.{header-writable, header-written}
 use Rattle.mac_resource.specs.MacResource.{mac_resource_refusal, EncodesResource}
 use Rattle.mac_resource.specs.Laws.MacResource.{told}

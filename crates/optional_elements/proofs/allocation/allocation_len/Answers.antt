@@ -1,6 +1,5 @@
 use mathlib.Core.Path.{refl}
 use native.Mathlib.Omega.{arith}
-use borrow.Author.Rules.{rules}
 use Rattle.optional_elements.proofs.allocation.allocation_len.Goals as goal
 
 pub returns-in-Element : goal.returns-in-Element

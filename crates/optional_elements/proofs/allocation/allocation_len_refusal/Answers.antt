@@ -1,4 +1,3 @@
-use borrow.Author.Rules.{rules}
 use Rattle.optional_elements.proofs.allocation.allocation_len_refusal.Goals as goal
 
 pub returns-in-Element : goal.returns-in-Element

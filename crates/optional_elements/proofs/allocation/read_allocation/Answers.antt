@@ -1,6 +1,5 @@
 use mathlib.Core.Path.{refl}
 use native.Mathlib.Omega.{arith}
-use borrow.Author.Rules.{rules}
 use Rattle.codec.specs.Header.{read, next-part}
 use Rattle.codec.specs.Reader.{parse_bind}
 use Rattle.codec.specs.Ahead.{held_on, ready_on, onward, onward_then}

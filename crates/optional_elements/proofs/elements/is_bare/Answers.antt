@@ -1,4 +1,3 @@
-use borrow.Author.Rules.{rules}
 use Rattle.optional_elements.proofs.elements.is_bare.Goals as goal
 
 pub returns-in-Level : goal.returns-in-Level

@@ -1,7 +1,6 @@
 use Prim.Native.Nat.{◌≤◌}
 use mathlib.Core.Path.{refl, sym, ◌∙◌}
 use native.Mathlib.Omega.{arith}
-use borrow.Author.Rules.{rules}
 use Rattle.codec.specs.Header.{Word, within, parsed_word}
 use Rattle.codec.specs.Ahead.{ready_less, next-read}
 use Rattle.optional_elements.specs.Optional.{optional}

@@ -1,4 +1,3 @@
-use borrow.Author.Rules.{rules}
 use mathlib.Core.Path.{sym, ◌∙◌}
 use Rattle.tetra_core.specs.Refusal.{first_skip, first-here, first_last}
 use Rattle.optional_elements.specs.GrantAndAllocation.{grant_and_allocation_refusal}

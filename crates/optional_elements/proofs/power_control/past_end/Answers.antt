@@ -1,4 +1,3 @@
-use borrow.Author.Rules.{rules}
 use Rattle.optional_elements.proofs.power_control.past_end.Goals as goal
 
 pub returns : goal.returns

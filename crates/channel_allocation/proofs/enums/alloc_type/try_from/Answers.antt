@@ -1,4 +1,3 @@
-use borrow.Author.Rules.{rules}
 use borrow.Author.Tests.{le-leb, lt-leb}
 use Rattle.channel_allocation.proofs.enums.alloc_type.try_from.Goals as goal
 

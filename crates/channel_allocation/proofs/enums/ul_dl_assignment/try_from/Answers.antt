@@ -1,4 +1,3 @@
-use borrow.Author.Rules.{rules}
 use borrow.Author.Tests.{le-leb, lt-leb}
 use Rattle.channel_allocation.proofs.enums.ul_dl_assignment.try_from.Goals as goal
 

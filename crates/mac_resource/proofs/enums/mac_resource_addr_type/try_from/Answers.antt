@@ -1,4 +1,3 @@
-use borrow.Author.Rules.{rules}
 use borrow.Author.Tests.{le-leb, lt-leb}
 use Rattle.mac_resource.proofs.enums.mac_resource_addr_type.try_from.Goals as goal
 
