@@ -1,0 +1,10 @@
+use Rattle.block_walk.specs.Positions.{after_end}
+use Rattle.block_walk.proofs.after_refused.Goals as goal
+
+pub returns-in-At : goal.returns-in-At
+unfolding after_end
+returns-in-At c = rw c.in-At.is
+
+pub returns-in-Unknown : goal.returns-in-Unknown
+unfolding after_end
+returns-in-Unknown c = rw c.in-Unknown.is
