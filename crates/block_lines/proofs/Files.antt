@@ -1,15 +1,15 @@
--- The listing of a file, by that of its block; and how much of a file is read.
-use mathlib.Core.Path.{◌≡◌, sym}
-use mathlib.Core.List.{List, [], ◌∷◌, ◌++◌}
+-- The listing of a file, by that of its block.
+use mathlib.Core.Path.{◌≡◌}
+use mathlib.Core.List.{List, ◌∷◌}
 use Prim.Native.Nat.{ℕ, suc, ◌+◌, ◌-◌, ◌≤◌, ◌<◌}
 use native.Mathlib.Omega.{arith}
 use borrow.Author.Tests.{lt-ltb, le-ltb}
-use lib.ListN.{length, take, drop, length-append, length-drop}
-use lib.Seq.{take_all, length-take-le}
+use lib.ListN.{length, take, drop, length-drop}
+use lib.Seq.{take_all}
 use Rattle.text.specs.Put.{Put}
 use Rattle.text.specs.Laws.Puts.{wider}
 use Rattle.block_lines.specs.Listing.{no_block_text, listing_text}
-use Rattle.block_lines.specs.File.{bit_count, count_of, file_text, block_bytes, file_bytes, FileRead}
+use Rattle.block_lines.specs.File.{bit_count, count_of, file_text, block_bytes, file_bytes}
 use Rattle.block_lines.specs.Most.{listing_most}
 
 module _ (f : List ℕ) {d e : List ℕ} {at r : ℕ} where
@@ -33,18 +33,3 @@ module _ (a b : ℕ) where
 
   pub part_of : (g : List ℕ) (m : ℕ) → take (2 + m) (a ∷ b ∷ g) ≡ a ∷ b ∷ take m g
   part_of g m = let e : 2 + m ≡ suc (suc m) = omega arith in rw e
-
--- ---- what is read
-
-pub short-read : (e : List ℕ) (r : ℕ) → r < 2 → r ≤ length e → FileRead r e
-short-read e r h l =
-    let n : length (take r e) ≡ r = length-take-le r e l in
-    ((l, sym n), rw (lt-ltb (length (take r e)) 2 (omega (arith, n))) (omega arith))
-
--- the block's bytes x behind the bit count of e
-pub whole_read : (e x rest : List ℕ) (r : ℕ) → 2 ≤ length e → r ≤ length x → r ≤ block_bytes (count_of e) → FileRead (2 + r) (take 2 e ++ (x ++ rest))
-whole_read [] x rest r h l k = absurd (omega arith)
-whole_read (a ∷ []) x rest r h l k = absurd (omega arith)
-whole_read (a ∷ b ∷ g) x rest r h l k =
-    let m : 2 + r ≤ length (a ∷ b ∷ (x ++ rest)) = rw length-append (omega arith) in
-    ((m, sym (length-take-le (2 + r) (a ∷ b ∷ (x ++ rest)) m)), rw (part_of a b (x ++ rest) r, bytes_of) (omega arith))

@@ -1,12 +1,9 @@
 -- The text of a block, as a walk puts it: line by line.
 use mathlib.Core.Path.{◌≡◌, refl, sym, ap, ◌∙◌}
-use mathlib.Core.Logic.{inl, inr}
 use mathlib.Core.Bool.{Bool, true, false}
 use mathlib.Core.List.{List, [], ◌∷◌, ◌++◌, append_assoc, append-nil}
 use Prim.Native.Nat.{ℕ, ◌+◌, ◌*◌, ◌≤◌}
 use native.Mathlib.Omega.{arith}
-use types.Run.{OneOf}
-use denote.Enum.Declared.{tag_of}
 use lib.ListN.{length, length-map}
 use lib.Seq.{length-take-le}
 use Rattle.block_lines.specs.Counts.{IsPrefixLen}
@@ -14,7 +11,6 @@ use Rattle.text.specs.Put.{Put, AtStart}
 use Rattle.text.specs.Laws.Puts.{then, wider, reads, put_nothing, at-start, start-counts}
 use Rattle.mac_block.specs.declared.reader.BlockEntry.{BlockEntry}
 use Rattle.mac_block.specs.declared.reader.StepAnswer.{StepAnswer}
-use Rattle.mac_block.specs.contracts.reader.StepAnswer.{the_type}
 use Rattle.block_rules.specs.Walk.{good_block, step, follow, walk_by, walk_from, walk}
 use Rattle.block_rules.specs.Downlink.{downlink_reader}
 use Rattle.block_rules.specs.Laws.Blocks.{held}
@@ -28,13 +24,9 @@ use Rattle.block_lines.specs.Listing.{lines_text, rest_text, block_text}
 use Rattle.block_lines.specs.Most.{line_most, rest_most, entries_most, listing_most}
 use Rattle.block_lines.proofs.Lines.{answer_line, lines_on}
 
--- an answer that is no entry, by its number among the cases
+-- an answer that is no entry
 abbrev NoEntry : StepAnswer → Type 0
-NoEntry a = OneOf (1 ∷ 2 ∷ []) (tag_of the_type a)
-
-not_one : OneOf (1 ∷ 2 ∷ []) 0 → ⊥
-not_one (inl e) = omega arith
-not_one (inr e) = omega arith
+NoEntry a = (e : BlockEntry) → a ≡ StepAnswer.Entry e → ⊥
 
 module _ (v : List ℕ) (n : ℕ) where
   -- ---- how many lines there are
@@ -68,7 +60,7 @@ module _ (v : List ℕ) (n : ℕ) where
   -- an answer that is no entry is the walk's end
   ends_by : (p : ℕ) (a : StepAnswer) → NoEntry a → answer_line a ++ lines_from v n (after p a) ≡ []
   unfolding answer_line after lines_from walk_on
-  ends_by p (StepAnswer.Entry e) k = absurd (not_one k)
+  ends_by p (StepAnswer.Entry e) k = absurd (k e refl)
   ends_by p StepAnswer.End k = refl
   ends_by p (StepAnswer.Refused r) k = refl
 

@@ -1,0 +1,13 @@
+use native.Mathlib.Omega.{arith}
+use Rattle.text.specs.Laws.Puts.{wider}
+use Rattle.block_lines.specs.Address.{second_text}
+use Rattle.block_lines.specs.Most.{field_most}
+use Rattle.block_lines.proofs.address.second_text.Goals as goal
+
+pub returns-in-Number : goal.returns-in-Number
+unfolding second_text
+returns-in-Number c = rw c.in-Number.is c.space_number.ensures
+
+pub returns-in-Nothing : goal.returns-in-Nothing
+unfolding second_text
+returns-in-Nothing c = rw c.in-Nothing.is (wider field_most (omega arith) c.word.ensures)
