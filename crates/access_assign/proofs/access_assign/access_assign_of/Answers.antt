@@ -1,4 +1,3 @@
-use borrow.Author.Rules.{rules}
 use borrow.Author.Tests.{ne_eqb}
 use Rattle.access_assign.specs.AccessAssign.{access_assign_of}
 use Rattle.access_assign.specs.Laws.Usage.{ul_found, ul_missing}

@@ -1,5 +1,4 @@
 use mathlib.Core.Path.{sym, ◌∙◌}
-use borrow.Author.Rules.{rules}
 use Rattle.tetra_core.specs.Refusal.{first-here, first_skip, first_last}
 use Rattle.access_assign.proofs.access_assign.access_assign_refusal.Goals as goal
 

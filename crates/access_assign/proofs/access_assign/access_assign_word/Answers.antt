@@ -1,4 +1,3 @@
-use borrow.Author.Rules.{rules}
 use Rattle.codec.specs.Row.{row_is}
 use Rattle.access_assign.specs.AccessAssign.{access_assign_row}
 use Rattle.access_assign.specs.Laws.AccessAssign.{access_assign_fits}

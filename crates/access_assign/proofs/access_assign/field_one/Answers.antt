@@ -1,5 +1,4 @@
 use native.Mathlib.Omega.{arith}
-use borrow.Author.Rules.{rules}
 use Rattle.access_assign.proofs.access_assign.field_one.Goals as goal
 
 pub returns-in-DownlinkCommonControlUplinkCommonOnly : goal.returns-in-DownlinkCommonControlUplinkCommonOnly

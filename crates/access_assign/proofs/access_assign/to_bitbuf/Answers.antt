@@ -1,4 +1,3 @@
-use borrow.Author.Rules.{rules}
 use Rattle.codec.specs.Encoded.{encoded_written}
 use Rattle.access_assign.proofs.access_assign.to_bitbuf.Goals as goal
 

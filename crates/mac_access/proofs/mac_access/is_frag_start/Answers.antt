@@ -1,4 +1,3 @@
-use borrow.Author.Rules.{rules}
 use Rattle.mac_access.proofs.mac_access.is_frag_start.Goals as goal
 
 pub returns-in-CapacityRequest : goal.returns-in-CapacityRequest

@@ -1,4 +1,3 @@
-use borrow.Author.Rules.{rules}
 use Rattle.mac_access.proofs.mac_access.is_null_pdu.Goals as goal
 
 pub returns-in-LengthInd : goal.returns-in-LengthInd

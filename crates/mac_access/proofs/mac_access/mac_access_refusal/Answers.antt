@@ -1,5 +1,4 @@
 use mathlib.Core.Path.{◌∙◌}
-use borrow.Author.Rules.{rules}
 use Rattle.mac_access.specs.MacAccess.{mac_access_refusal}
 use Rattle.mac_access.proofs.mac_access.mac_access_refusal.Goals as goal
 

@@ -1,5 +1,4 @@
 use native.Mathlib.Omega.{arith}
-use borrow.Author.Rules.{rules}
 use Rattle.mac_access.specs.MacAccess.{mac_access_size}
 use Rattle.mac_access.proofs.mac_access.mac_access_size.Goals as goal
 

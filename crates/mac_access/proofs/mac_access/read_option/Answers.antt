@@ -1,5 +1,4 @@
 use native.Mathlib.Omega.{arith}
-use borrow.Author.Rules.{rules}
 use borrow.Author.Tests.{eq-eqb, ne_eqb}
 use Rattle.codec.specs.Header.{alone}
 use Rattle.codec.specs.Ahead.{held_on, ready_on, ahead_field-short}

@@ -1,4 +1,3 @@
-use borrow.Author.Rules.{rules}
 use Rattle.codec.specs.Encoded.{encoded_written}
 use Rattle.mac_access.proofs.mac_access.to_bitbuf.Goals as goal
 

@@ -1,5 +1,4 @@
 use mathlib.Core.Path.{◌∙◌}
-use borrow.Author.Rules.{rules}
 use Rattle.mac_data.specs.MacData.{mac_data_refusal}
 use Rattle.mac_data.proofs.mac_data.mac_data_refusal.Goals as goal
 

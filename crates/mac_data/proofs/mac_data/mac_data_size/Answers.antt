@@ -1,5 +1,4 @@
 use native.Mathlib.Omega.{arith}
-use borrow.Author.Rules.{rules}
 use Rattle.mac_data.specs.MacData.{mac_data_size}
 use Rattle.mac_data.proofs.mac_data.mac_data_size.Goals as goal
 

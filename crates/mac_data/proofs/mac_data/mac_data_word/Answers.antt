@@ -1,4 +1,3 @@
-use borrow.Author.Rules.{rules}
 use Rattle.tetra_fields.specs.Laws.UplinkHead.{allowed, uplink_joined}
 use Rattle.mac_data.specs.MacData.{head_of, mac_data_row, mac_data_size, mac_data_refusal}
 use Rattle.mac_data.proofs.mac_data.mac_data_word.Goals as goal

@@ -1,4 +1,3 @@
-use borrow.Author.Rules.{rules}
 use Rattle.codec.specs.Encoded.{encoded_written}
 use Rattle.mac_data.proofs.mac_data.to_bitbuf.Goals as goal
 

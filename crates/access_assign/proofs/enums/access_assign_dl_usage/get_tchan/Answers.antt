@@ -1,4 +1,3 @@
-use borrow.Author.Rules.{rules}
 use Rattle.access_assign.proofs.enums.access_assign_dl_usage.get_tchan.Goals as goal
 
 pub returns-in-Traffic : goal.returns-in-Traffic

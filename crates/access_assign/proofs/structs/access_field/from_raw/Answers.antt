@@ -1,4 +1,3 @@
-use borrow.Author.Rules.{rules}
 use Rattle.access_assign.specs.AccessField.{access_field_of}
 use Rattle.access_assign.proofs.structs.access_field.from_raw.Goals as goal
 

@@ -1,4 +1,3 @@
-use borrow.Author.Rules.{rules}
 use borrow.Author.Tests.{le-leb, lt-leb}
 use Rattle.access_assign.proofs.structs.base_frame_length.try_from.Goals as goal
 
