@@ -1,4 +1,3 @@
-use borrow.Author.Rules.{rules}
 use Rattle.codec.proofs.fields_past_end.Goals as goal
 
 pub returns : goal.returns

@@ -1,6 +1,5 @@
 use mathlib.Core.Path.{refl}
 use native.Mathlib.Omega.{arith}
-use borrow.Author.Rules.{rules}
 use Rattle.codec.specs.Header.{length_left}
 use Rattle.codec.specs.Ahead.{held_ahead, held_none}
 use Rattle.codec.proofs.load.Goals as goal

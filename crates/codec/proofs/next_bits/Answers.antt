@@ -1,7 +1,6 @@
 use mathlib.Core.Path.{refl}
 use native.Mathlib.Nat.{mod-lt}
 use lib.Pow.{pow_pos}
-use borrow.Author.Rules.{rules}
 use Rattle.codec.proofs.next_bits.Goals as goal
 
 pub returns : goal.returns

@@ -1,10 +1,9 @@
 use borrow.Author.Rules.{rules}
 use native.Mathlib.Omega.{arith}
-use Prim.Native.Nat.{◌+◌, ◌-◌, ◌≤◌}
-use mathlib.Core.Path.{◌≡◌, ◌∙◌}
+use Prim.Native.Nat.{◌-◌}
+use mathlib.Core.Path.{◌∙◌}
 use native.Mathlib.Nat.{zero-add, sub-zero, add_assoc, sub-add-eq}
-use lib.ListN.{length, drop}
-use Rattle.codec.specs.Words.{short_at, short_stop, short_more, short-end}
+use Rattle.codec.specs.Words.{short_stop, short_more, short-end}
 use Rattle.codec.proofs.reach.Goals as goal
 
 pub loop-i-init : goal.loop-i-init

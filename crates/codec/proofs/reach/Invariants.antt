@@ -1,10 +1,7 @@
-use borrow.Author.Rules.{rules}
-use native.Mathlib.Omega.{arith}
 use Prim.Native.Nat.{◌+◌, ◌-◌, ◌≤◌}
-use mathlib.Core.Path.{◌≡◌, ◌∙◌}
-use native.Mathlib.Nat.{zero-add, sub-zero, add_assoc, sub-add-eq}
+use mathlib.Core.Path.{◌≡◌}
 use lib.ListN.{length, drop}
-use Rattle.codec.specs.Words.{short_at, short_stop, short_more, short-end}
+use Rattle.codec.specs.Words.{short_at}
 use Rattle.codec.proofs.reach.Given as goal
 
 abbrev pub invariant-loop-i : goal.invariant-loop-i

@@ -1,6 +1,5 @@
 use mathlib.Core.Path.{◌≡◌, refl}
 use mathlib.Core.Bool.{true}
-use borrow.Author.Rules.{rules}
 use borrow.Author.Tests.{le-leb, lt-leb}
 use Rattle.tetra_core.specs.BitBuffer.{good_window}
 use Rattle.tetra_core.specs.Refusal.{first, first_skip, first-here}

@@ -1,4 +1,3 @@
-use borrow.Author.Rules.{rules}
 use Rattle.text.specs.Laws.Puts.{put_one, put-none}
 use Rattle.text.proofs.byte.Goals as goal
 

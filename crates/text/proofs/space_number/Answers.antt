@@ -1,4 +1,3 @@
-use borrow.Author.Rules.{rules}
 use Rattle.text.specs.Laws.Puts.{then}
 use Rattle.text.proofs.space_number.Goals as goal
 

@@ -1,8 +1,5 @@
-use Prim.Native.Nat.{◌-◌, ◌≤◌}
 use native.Mathlib.Omega.{arith}
 use borrow.Author.Rules.{rules}
-use lib.ListN.{length, take}
-use Rattle.text.specs.Put.{Put}
 use Rattle.text.specs.Laws.Puts.{put_nothing, put_more, put_all, sized}
 use Rattle.text.proofs.word.Goals as goal
 

@@ -1,9 +1,6 @@
 use Prim.Native.Nat.{◌-◌, ◌≤◌}
-use native.Mathlib.Omega.{arith}
-use borrow.Author.Rules.{rules}
 use lib.ListN.{length, take}
 use Rattle.text.specs.Put.{Put}
-use Rattle.text.specs.Laws.Puts.{put_nothing, put_more, put_all, sized}
 use Rattle.text.proofs.word.Given as goal
 
 abbrev pub invariant-loop-i : goal.invariant-loop-i

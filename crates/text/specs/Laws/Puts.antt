@@ -1,6 +1,6 @@
 -- Text behind text is one text; text that has room is there.
-use Rattle.std.specs.Prelude.{◌≡◌, refl, List, [], ◌∷◌, ◌++◌, ℕ, zero, suc, ◌+◌, ◌-◌, ◌≤◌, ◌<◌, length, set, take, drop, get_or}
-use Rattle.std.proofs.Common.{sym, ap, ◌∙◌, zero-add, arith, add-one, length-append, length-set, take-suc, take_all}
+use Rattle.std.specs.Prelude.{◌≡◌, refl, List, [], ◌∷◌, ◌++◌, ℕ, suc, ◌+◌, ◌-◌, ◌≤◌, ◌<◌, length, set, take, drop, get_or}
+use Rattle.std.proofs.Common.{sym, ◌∙◌, zero-add, arith, add-one, length-append, take-suc, take_all}
 use Rattle.std.proofs.Math.Decide.{dec_le}
 use Rattle.std.proofs.lemmas.List.Edits.{sets, sets-eq}
 use Rattle.std.proofs.Math.Seq.{length-sets, set_out}

@@ -1,8 +1,7 @@
-use Prim.Native.Nat.{ℕ, ◌-◌, ◌≤◌}
+use Prim.Native.Nat.{ℕ}
 use mathlib.Core.Path.{◌≡◌, refl, sym, ap, ◌∙◌}
 use native.Mathlib.Omega.{arith}
 use borrow.Author.Rules.{rules}
-use lib.ListN.{length}
 use Rattle.bits.specs.Bits.{bits_at, put_bits}
 use Rattle.bits.specs.Laws.Reads.{bits_at_zero, get_bits_lt}
 use Rattle.bits.specs.Laws.Writes.{length-put_bits, put_bits-nil}

@@ -1,12 +1,7 @@
-use Prim.Native.Nat.{ℕ, ◌-◌, ◌≤◌}
-use mathlib.Core.Path.{◌≡◌, refl, sym, ap, ◌∙◌}
-use native.Mathlib.Omega.{arith}
-use borrow.Author.Rules.{rules}
+use Prim.Native.Nat.{◌-◌, ◌≤◌}
+use mathlib.Core.Path.{◌≡◌}
 use lib.ListN.{length}
 use Rattle.bits.specs.Bits.{bits_at, put_bits}
-use Rattle.bits.specs.Laws.Reads.{bits_at_zero, get_bits_lt}
-use Rattle.bits.specs.Laws.Writes.{length-put_bits, put_bits-nil}
-use Rattle.bits.specs.Laws.Spans.{copy_turn}
 use Rattle.bits.proofs.span.copy_span.Given as goal
 
 abbrev pub invariant-loop-done : goal.invariant-loop-done

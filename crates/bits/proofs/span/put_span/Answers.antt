@@ -1,8 +1,8 @@
-use Prim.Native.Nat.{ℕ, ◌-◌, ◌/◌, ◌^◌, ◌≤◌}
+use Prim.Native.Nat.{ℕ, ◌-◌, ◌/◌, ◌^◌}
 use mathlib.Core.Path.{◌≡◌, refl, sym, ap, ◌∙◌}
 use native.Mathlib.Omega.{arith}
 use borrow.Author.Rules.{rules}
-use lib.ListN.{length, replicate}
+use lib.ListN.{replicate}
 use Rattle.bits.specs.Bits.{val, put_bits}
 use Rattle.bits.specs.Laws.Writes.{length-put_bits, put_bits-nil}
 use Rattle.bits.specs.Laws.Spans.{alike, alike_lt, span_turn}

@@ -1,11 +1,7 @@
-use Prim.Native.Nat.{ℕ, ◌-◌, ◌/◌, ◌^◌, ◌≤◌}
-use mathlib.Core.Path.{◌≡◌, refl, sym, ap, ◌∙◌}
-use native.Mathlib.Omega.{arith}
-use borrow.Author.Rules.{rules}
+use Prim.Native.Nat.{◌-◌, ◌≤◌}
+use mathlib.Core.Path.{◌≡◌}
 use lib.ListN.{length, replicate}
-use Rattle.bits.specs.Bits.{val, put_bits}
-use Rattle.bits.specs.Laws.Writes.{length-put_bits, put_bits-nil}
-use Rattle.bits.specs.Laws.Spans.{alike, alike_lt, span_turn}
+use Rattle.bits.specs.Bits.{put_bits}
 use Rattle.bits.proofs.span.put_span.Given as goal
 
 abbrev pub invariant-loop-done : goal.invariant-loop-done

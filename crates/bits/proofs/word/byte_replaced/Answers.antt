@@ -1,7 +1,6 @@
 use Prim.Native.Nat.{◌+◌, ◌-◌, ◌<◌}
 use native.Mathlib.Omega.{arith}
 use lib.Bits.{and_le_l}
-use borrow.Author.Rules.{rules}
 use Rattle.bits.specs.Bits.{patch}
 use Rattle.bits.specs.Laws.Shifts.{masked_is}
 use Rattle.bits.proofs.Words.{patch_lt}

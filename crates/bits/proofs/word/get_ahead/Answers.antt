@@ -2,7 +2,6 @@ use native.Mathlib.Nat.{add-sub_of_le}
 use native.Mathlib.Omega.{arith}
 use Prim.Native.Nat.{◌+◌, ◌-◌, ◌*◌, ◌≤◌}
 use Rattle.bits.proofs.Words.{leading_all, leading_word, leading_nine}
-use borrow.Author.Rules.{rules}
 use Rattle.bits.proofs.word.get_ahead.Goals.{After-word_start-at}
 use Rattle.bits.proofs.word.get_ahead.Goals as goal
 

@@ -3,7 +3,6 @@ use mathlib.Core.Path.{sym, ◌∙◌}
 use lib.Pow.{shl_exact}
 use Rattle.bits.proofs.Words.{get_bits_byte}
 use Rattle.bits.specs.Laws.Reads.{get_bits_lt}
-use borrow.Author.Rules.{rules}
 use Rattle.bits.proofs.word.load1.Goals as goal
 
 pub returns : goal.returns

@@ -1,6 +1,5 @@
 use native.Mathlib.Omega.{arith}
 use Rattle.bits.proofs.Words.{get_bits_double}
-use borrow.Author.Rules.{rules}
 use Rattle.bits.proofs.word.load4.Goals as goal
 
 pub returns : goal.returns

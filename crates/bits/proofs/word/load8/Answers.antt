@@ -2,7 +2,6 @@ use native.Mathlib.Omega.{arith}
 use mathlib.Core.Path.{◌∙◌}
 use native.Mathlib.Nat.{mul-one}
 use Rattle.bits.proofs.Words.{get_bits_double}
-use borrow.Author.Rules.{rules}
 use Rattle.bits.proofs.word.load8.Goals as goal
 
 pub returns : goal.returns

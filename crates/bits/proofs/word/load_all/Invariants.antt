@@ -1,11 +1,7 @@
-use Prim.Native.Nat.{ℕ, ◌-◌, ◌*◌, ◌≤◌}
-use mathlib.Core.Path.{◌≡◌, sym, ap, ◌∙◌}
-use native.Mathlib.Omega.{arith}
+use Prim.Native.Nat.{◌-◌, ◌*◌, ◌≤◌}
+use mathlib.Core.Path.{◌≡◌}
 use lib.ListN.{length}
-use borrow.Author.Rules.{rules}
 use Rattle.bits.specs.Bits.{get_bits}
-use Rattle.bits.specs.Laws.Reads.{get_bits-zero}
-use Rattle.bits.proofs.Words.{get_bits-next}
 use Rattle.bits.proofs.word.load_all.Given as goal
 
 abbrev pub invariant-loop-i : goal.invariant-loop-i

@@ -1,7 +1,6 @@
 use native.Mathlib.Omega.{arith}
 use Rattle.bits.specs.Laws.Shifts as nums
 use lib.Pow.{pow_pos}
-use borrow.Author.Rules.{rules}
 use Rattle.bits.proofs.word.mask.Goals as goal
 
 pub overflow_sub-result : goal.overflow_sub-result

@@ -2,7 +2,6 @@ use native.Mathlib.Omega.{arith}
 use mathlib.Core.Path.{sym}
 use Rattle.bits.specs.Laws.Values.{bits-zero}
 use Rattle.bits.specs.Laws.Writes.{put_bits-nil}
-use borrow.Author.Rules.{rules}
 use Rattle.bits.proofs.word.put_bits.Goals as goal
 
 pub returns-then-n-eq0 : goal.returns-then-n-eq0

@@ -6,9 +6,8 @@ use lib.Pow.{shr-shr}
 use borrow.Author.Rules.{rules}
 use native.Mathlib.Omega.{arith}
 use mathlib.Core.Path.{◌≡◌, refl, sym, ap, ◌∙◌}
-use Prim.Native.Nat.{◌+◌, ◌-◌, ◌/◌, ◌%◌, ◌^◌, ◌≤◌}
-use lib.ListN.{length}
-use Rattle.bits.specs.Bits.{put_bits, bits_of_nat}
+use Prim.Native.Nat.{◌+◌, ◌-◌, ◌/◌, ◌%◌, ◌^◌}
+use Rattle.bits.specs.Bits.{put_bits}
 use Rattle.bits.proofs.Words.{put_bits_step}
 use Rattle.bits.specs.Laws.Values.{bits-zero}
 use Rattle.bits.specs.Laws.Writes.{put_bits-nil}

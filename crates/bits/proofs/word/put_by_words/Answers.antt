@@ -1,7 +1,6 @@
 use native.Mathlib.Nat.{add-sub_of_le}
 use native.Mathlib.Omega.{arith}
 use Prim.Native.Nat.{◌*◌, ◌≤◌}
-use borrow.Author.Rules.{rules}
 use Rattle.bits.proofs.word.put_by_words.Goals.{After-word_start-at}
 use Rattle.bits.proofs.word.put_by_words.Goals as goal
 

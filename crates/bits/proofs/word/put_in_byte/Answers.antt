@@ -3,7 +3,6 @@ use mathlib.Core.Path.{◌≡◌, ap, ◌∙◌}
 use Prim.Native.Nat.{ℕ, ◌+◌, ◌-◌, ◌*◌, ◌/◌, ◌%◌}
 use Rattle.bits.specs.Bits.{put_bits, bits_of_nat}
 use Rattle.bits.proofs.Words.{put_bits_byte}
-use borrow.Author.Rules.{rules}
 use Rattle.bits.proofs.word.put_in_byte.Goals as goal
 
 pub returns : goal.returns

@@ -1,7 +1,6 @@
 use native.Mathlib.Omega.{arith}
 use Prim.Native.Nat.{◌-◌}
 use Rattle.bits.proofs.Words.{put_bits-word}
-use borrow.Author.Rules.{rules}
 use Rattle.bits.proofs.word.put_in_word.Goals as goal
 
 pub returns : goal.returns

@@ -2,7 +2,6 @@ use native.Mathlib.Omega.{arith}
 use mathlib.Core.Path.{ap, ◌∙◌}
 use Prim.Native.Nat.{ℕ}
 use lib.ListN.{set}
-use borrow.Author.Rules.{rules}
 use Rattle.bits.proofs.Words.{put_bits-one}
 use Rattle.bits.proofs.word.store1.Goals as goal
 

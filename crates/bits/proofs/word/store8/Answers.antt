@@ -3,7 +3,6 @@ use Rattle.bits.specs.Bits.{put_bits, bits_of_nat}
 use mathlib.Core.Path.{ap, ◌∙◌}
 use mathlib.Core.List.{List}
 use Prim.Native.Nat.{ℕ, ◌+◌, ◌*◌}
-use borrow.Author.Rules.{rules}
 use Rattle.bits.proofs.Words.{put_bits_double}
 use Rattle.bits.proofs.word.store8.Goals as goal
 

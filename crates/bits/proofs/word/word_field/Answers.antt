@@ -1,5 +1,4 @@
 use Rattle.bits.specs.Laws.Shifts as nums
-use borrow.Author.Rules.{rules}
 use Rattle.bits.proofs.word.word_field.Goals as goal
 
 pub returns : goal.returns

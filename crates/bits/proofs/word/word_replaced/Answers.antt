@@ -5,7 +5,6 @@ use Rattle.bits.specs.Laws.Shifts as nums
 use native.Mathlib.Nat.{mod-lt}
 use lib.Pow.{shl_exact, pow_pos}
 use Prim.Native.Nat.{◌<◌}
-use borrow.Author.Rules.{rules}
 use Rattle.bits.proofs.word.word_replaced.Goals.{After-word_field-old}
 use Rattle.bits.proofs.word.word_replaced.Goals as goal
 

@@ -1,4 +1,3 @@
-use borrow.Author.Rules.{rules}
 use native.Mathlib.Omega.{arith}
 use Rattle.codec.proofs.Setting.{length_exact, flag_exact, sum_fits, all_fits}
 use Rattle.codec.proofs.encoded.with_length.Goals as goal

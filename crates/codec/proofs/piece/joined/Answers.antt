@@ -1,4 +1,3 @@
-use borrow.Author.Rules.{rules}
 use Rattle.codec.proofs.Pieces.{joined_fits, joined_holds}
 use Rattle.codec.proofs.piece.joined.Goals as goal
 

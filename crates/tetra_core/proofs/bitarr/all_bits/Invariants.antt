@@ -1,11 +1,7 @@
 use Prim.Native.Nat.{◌-◌, ◌≤◌}
-use mathlib.Core.Path.{◌≡◌, refl, ◌∙◌}
-use native.Mathlib.Omega.{arith}
-use borrow.Author.Rules.{rules}
-use borrow.Author.Tests.{lt-ltb, le-ltb}
-use lib.ListN.{length, drop, drop_of_length-le}
+use mathlib.Core.Path.{◌≡◌}
+use lib.ListN.{length, drop}
 use Rattle.tetra_core.specs.BitBuffer.{are_bits}
-use Rattle.tetra_core.proofs.BitBytes.{are_bits-cons}
 use Rattle.tetra_core.proofs.bitarr.all_bits.Given as goal
 
 abbrev pub invariant-loop-i : goal.invariant-loop-i

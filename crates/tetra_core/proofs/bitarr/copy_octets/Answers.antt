@@ -1,7 +1,6 @@
 use mathlib.Core.Bool.{false}
 use native.Mathlib.Nat.{zero-add}
 use native.Mathlib.Omega.{arith}
-use borrow.Author.Rules.{rules}
 use lib.ListN.{replicate}
 use Rattle.bits.specs.Bits.{bits_at}
 use Rattle.tetra_core.specs.Quantity.{fill_of}

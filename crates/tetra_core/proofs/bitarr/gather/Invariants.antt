@@ -1,12 +1,8 @@
-use Prim.Native.Nat.{ℕ, ◌-◌, ◌≤◌}
-use mathlib.Core.Path.{◌≡◌, sym, ap, ◌∙◌}
+use Prim.Native.Nat.{◌-◌, ◌≤◌}
+use mathlib.Core.Path.{◌≡◌}
 use mathlib.Core.List.{map}
-use native.Mathlib.Omega.{arith}
-use borrow.Author.Rules.{rules}
 use lib.ListN.{take, drop}
 use Rattle.bits.specs.Bits.{val, odd}
-use Rattle.bits.specs.Laws.Values.{val-nil}
-use Rattle.tetra_core.proofs.BitBytes.{gather_turn, gather_fits}
 use Rattle.tetra_core.proofs.bitarr.gather.Given as goal
 
 abbrev pub invariant-loop-i : goal.invariant-loop-i

@@ -1,12 +1,9 @@
-use Prim.Native.Nat.{ℕ, ◌-◌, ◌≤◌}
-use mathlib.Core.Path.{◌≡◌, refl, ap, ◌∙◌}
+use Prim.Native.Nat.{◌-◌, ◌≤◌}
+use mathlib.Core.Path.{◌≡◌}
 use mathlib.Core.List.{map}
-use native.Mathlib.Omega.{arith}
-use borrow.Author.Rules.{rules}
-use lib.ListN.{length, length-set}
-use lib.Seq.{paste, paste-zero}
+use lib.ListN.{length}
+use lib.Seq.{paste}
 use Rattle.bits.specs.Bits.{digit, bits_of_nat}
-use Rattle.tetra_core.proofs.BitBytes.{spread_turn}
 use Rattle.tetra_core.proofs.bitarr.spread.Given as goal
 
 abbrev pub invariant-loop-i : goal.invariant-loop-i

@@ -1,11 +1,9 @@
-use Prim.Native.Nat.{◌-◌, ◌≤◌}
 use mathlib.Core.Path.{◌≡◌, refl, ◌∙◌}
-use mathlib.Core.List.{◌++◌, map, append-nil}
+use mathlib.Core.List.{append-nil}
 use native.Mathlib.Omega.{arith}
 use borrow.Author.Rules.{rules}
-use lib.ListN.{length, drop}
+use lib.ListN.{length}
 use lib.Seq.{drop-length}
-use Rattle.bits.specs.Bits.{digit, bits_at}
 use Rattle.bits.specs.Laws.Reads.{bits_at_zero}
 use Rattle.tetra_core.proofs.BitBytes.{spread_all_turn}
 use Rattle.tetra_core.proofs.bitarr.spread_all.Goals as goal

@@ -1,13 +1,8 @@
 use Prim.Native.Nat.{◌-◌, ◌≤◌}
-use mathlib.Core.Path.{◌≡◌, refl, ◌∙◌}
-use mathlib.Core.List.{◌++◌, map, append-nil}
-use native.Mathlib.Omega.{arith}
-use borrow.Author.Rules.{rules}
+use mathlib.Core.Path.{◌≡◌}
+use mathlib.Core.List.{◌++◌, map}
 use lib.ListN.{length, drop}
-use lib.Seq.{drop-length}
 use Rattle.bits.specs.Bits.{digit, bits_at}
-use Rattle.bits.specs.Laws.Reads.{bits_at_zero}
-use Rattle.tetra_core.proofs.BitBytes.{spread_all_turn}
 use Rattle.tetra_core.proofs.bitarr.spread_all.Given as goal
 
 abbrev pub invariant-loop-done : goal.invariant-loop-done

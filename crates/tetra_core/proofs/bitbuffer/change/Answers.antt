@@ -1,5 +1,3 @@
-use borrow.Author.Rules.{rules}
-use borrow.Author.Tests.{not-true, not-false}
 use mathlib.Core.Path.{sym, ◌∙◌}
 use Rattle.tetra_core.specs.BitBuffer.{changed}
 use Rattle.tetra_core.proofs.bitbuffer.change.Goals as goal

@@ -1,6 +1,5 @@
 use mathlib.Core.Path.{◌≡◌, sym, ◌∙◌}
 use native.Mathlib.Omega.{arith}
-use borrow.Author.Rules.{rules}
 use lib.ListN.{length}
 use Rattle.tetra_core.specs.BitBuffer.{copy_refusal, copy_bits, copied}
 use Rattle.tetra_core.specs.Laws.Windows.{copyable, copy_refused, copy_done, bytes-refused, bytes-done}

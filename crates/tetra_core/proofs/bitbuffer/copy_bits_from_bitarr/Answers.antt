@@ -1,6 +1,5 @@
 use mathlib.Core.Path.{◌≡◌, sym, ◌∙◌}
 use native.Mathlib.Omega.{arith}
-use borrow.Author.Rules.{rules}
 use lib.ListN.{length}
 use Rattle.tetra_core.specs.BitBuffer.{from_bitarr_refusal, copy_bits_from_bitarr, from_bitarr}
 use Rattle.tetra_core.specs.Laws.Windows.{gatherable, move_refused, move_done, bytes-refused, bytes-done}

@@ -1,6 +1,5 @@
 use native.Mathlib.Omega.{arith}
 use Prim.Native.Nat.{◌*◌}
-use borrow.Author.Rules.{rules}
 use lib.ListN.{length}
 use Rattle.tetra_core.specs.BitBuffer.{opened}
 use Rattle.tetra_core.specs.Laws.Windows.{bad_test}

@@ -1,6 +1,5 @@
 use Prim.Native.Nat.{◌*◌, ◌≤◌, ◌<◌}
 use native.Mathlib.Omega.{arith}
-use borrow.Author.Rules.{rules}
 use borrow.Author.Tests.{le-leb, lt-leb}
 use Rattle.tetra_core.specs.BitBuffer.{good_window}
 use Rattle.tetra_core.proofs.bitbuffer.good_window.Goals as goal

@@ -1,4 +1,3 @@
-use borrow.Author.Rules.{rules}
 use mathlib.Core.Path.{sym, ◌∙◌}
 use Rattle.tetra_core.specs.BitBuffer.{opened}
 use Rattle.tetra_core.proofs.bitbuffer.new.Goals as goal

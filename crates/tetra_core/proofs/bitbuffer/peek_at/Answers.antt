@@ -1,6 +1,5 @@
 use mathlib.Core.Path.{sym, ◌∙◌}
 use native.Mathlib.Omega.{arith}
-use borrow.Author.Rules.{rules}
 use Rattle.tetra_core.specs.BitBuffer.{peek_at}
 use Rattle.tetra_core.specs.Laws.Windows.{readable, read-refused, read_done}
 use Rattle.tetra_core.proofs.bitbuffer.peek_at.Goals as goal

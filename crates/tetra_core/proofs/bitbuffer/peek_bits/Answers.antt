@@ -1,4 +1,3 @@
-use borrow.Author.Rules.{rules}
 use Rattle.tetra_core.proofs.bitbuffer.peek_bits.Goals as goal
 
 pub returns : goal.returns

@@ -1,4 +1,3 @@
-use borrow.Author.Rules.{rules}
 use mathlib.Core.Path.{refl, ◌∙◌}
 use Rattle.tetra_core.specs.Laws.Windows.{bytes-refused, bytes-done}
 use Rattle.tetra_core.proofs.bitbuffer.put_unless.Goals as goal

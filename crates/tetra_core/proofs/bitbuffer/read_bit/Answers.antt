@@ -1,4 +1,3 @@
-use borrow.Author.Rules.{rules}
 use Rattle.tetra_core.proofs.bitbuffer.read_bit.Goals as goal
 
 pub returns : goal.returns

@@ -1,6 +1,5 @@
 use mathlib.Core.Path.{◌≡◌, sym, ◌∙◌}
 use native.Mathlib.Omega.{arith}
-use borrow.Author.Rules.{rules}
 use lib.ListN.{length}
 use Rattle.tetra_core.specs.BitBuffer.{into_slice_refusal, read_bits_into_slice, sliced_bits}
 use Rattle.tetra_core.specs.Laws.Windows.{sliceable, read-refused, read_done, bytes-refused, bytes-done}

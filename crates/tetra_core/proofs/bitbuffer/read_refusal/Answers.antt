@@ -2,8 +2,7 @@ use Prim.Native.Nat.{◌+◌, ◌≤◌, ◌<◌}
 use mathlib.Core.Path.{◌≡◌, sym, ◌∙◌}
 use mathlib.Core.Bool.{true}
 use native.Mathlib.Omega.{arith}
-use borrow.Author.Rules.{rules}
-use borrow.Author.Tests.{le-leb, lt-leb, not-true, not-false}
+use borrow.Author.Tests.{le-leb, lt-leb}
 use Rattle.tetra_core.specs.Refusal.{first}
 use Rattle.tetra_core.specs.BitBuffer.{good_window, read_refusal}
 use Rattle.tetra_core.proofs.bitbuffer.read_refusal.Goals.{Else-not-good_window}

@@ -1,7 +1,6 @@
 use mathlib.Core.Path.{◌≡◌, sym, ◌∙◌}
 use mathlib.Core.Bool.{true}
-use borrow.Author.Rules.{rules}
-use borrow.Author.Tests.{le-leb, lt-leb, not-true, not-false}
+use borrow.Author.Tests.{le-leb, lt-leb}
 use Rattle.tetra_core.specs.Refusal.{first, first_last}
 use Rattle.tetra_core.specs.BitBuffer.{good_window, room_refusal}
 use Rattle.tetra_core.specs.Laws.Windows.{good_facts}

@@ -1,6 +1,5 @@
 use mathlib.Core.Path.{◌≡◌, sym, ◌∙◌}
 use native.Mathlib.Omega.{arith}
-use borrow.Author.Rules.{rules}
 use lib.ListN.{length}
 use Rattle.tetra_core.specs.BitBuffer.{room_refusal, to_bitarr, bitarr}
 use Rattle.tetra_core.specs.Laws.Windows.{roomy, read-refused, read_done, bytes-refused, bytes-done}

@@ -1,6 +1,5 @@
 use mathlib.Core.Path.{sym, ◌∙◌}
 use native.Mathlib.Omega.{arith}
-use borrow.Author.Rules.{rules}
 use Rattle.tetra_core.specs.BitBuffer.{write_bits, written}
 use Rattle.tetra_core.specs.Laws.Windows.{writable}
 use Rattle.tetra_core.proofs.bitbuffer.write_bits.Goals as goal

@@ -2,8 +2,7 @@ use Prim.Native.Nat.{◌^◌}
 use mathlib.Core.Path.{◌≡◌, sym, ◌∙◌}
 use mathlib.Core.Bool.{true}
 use lib.Dec.{ltb}
-use borrow.Author.Rules.{rules}
-use borrow.Author.Tests.{le-leb, lt-leb, not-true, not-false}
+use borrow.Author.Tests.{le-leb, lt-leb}
 use Rattle.tetra_core.specs.Refusal.{first}
 use Rattle.tetra_core.specs.BitBuffer.{good_window, write_refusal}
 use Rattle.tetra_core.specs.Laws.Windows.{good_facts}

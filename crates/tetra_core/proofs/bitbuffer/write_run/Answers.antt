@@ -1,6 +1,5 @@
 use mathlib.Core.Path.{◌≡◌, sym, ◌∙◌}
 use native.Mathlib.Omega.{arith}
-use borrow.Author.Rules.{rules}
 use lib.ListN.{length}
 use Rattle.tetra_core.specs.BitBuffer.{room_refusal, write_run, run_written}
 use Rattle.tetra_core.specs.Laws.Windows.{roomy, move_refused, move_done, bytes-refused, bytes-done}

@@ -1,6 +1,5 @@
 use Prim.Native.Nat.{◌≤◌, ◌<◌}
 use native.Mathlib.Omega.{arith}
-use borrow.Author.Rules.{rules}
 use borrow.Author.Tests.{le-leb, lt-leb}
 use Rattle.tetra_core.specs.Quantity.{octets_of, octet_count}
 use Rattle.tetra_core.proofs.quantity.count_octets.Goals as goal

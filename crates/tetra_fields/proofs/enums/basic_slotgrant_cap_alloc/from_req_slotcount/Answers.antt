@@ -1,4 +1,3 @@
-use borrow.Author.Rules.{rules}
 use borrow.Author.Tests.{eq-eqb, ne_eqb, le-leb, lt-leb}
 use Rattle.tetra_fields.proofs.enums.basic_slotgrant_cap_alloc.from_req_slotcount.Goals as goal
 

@@ -1,6 +1,5 @@
 use Prim.Native.Nat.{ℕ}
 use mathlib.Core.Path.{◌≡◌}
-use borrow.Author.Rules.{rules}
 use Rattle.tetra_fields.specs.BasicSlotgrant.{cap_alloc_number, grant_of, granted_slots}
 use Rattle.tetra_fields.specs.ReservationRequirement.{reservation_of, slotcount}
 use Rattle.tetra_fields.specs.declared.enums.basic_slotgrant_cap_alloc.BasicSlotgrantCapAlloc.{BasicSlotgrantCapAlloc}

@@ -1,4 +1,3 @@
-use borrow.Author.Rules.{rules}
 use borrow.Author.Tests.{le-leb, lt-leb}
 use Rattle.tetra_fields.proofs.enums.basic_slotgrant_cap_alloc.try_from.Goals as goal
 

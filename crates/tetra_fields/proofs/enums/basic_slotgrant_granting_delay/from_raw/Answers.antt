@@ -1,4 +1,3 @@
-use borrow.Author.Rules.{rules}
 use borrow.Author.Tests.{ne_eqb}
 use Rattle.tetra_fields.specs.BasicSlotgrant.{delay_of}
 use Rattle.tetra_fields.proofs.enums.basic_slotgrant_granting_delay.from_raw.Goals as goal

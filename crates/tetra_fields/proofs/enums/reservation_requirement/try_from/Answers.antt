@@ -1,4 +1,3 @@
-use borrow.Author.Rules.{rules}
 use borrow.Author.Tests.{le-leb, lt-leb}
 use Rattle.tetra_fields.proofs.enums.reservation_requirement.try_from.Goals as goal
 

@@ -1,5 +1,4 @@
 use mathlib.Core.List.{[], ◌∷◌}
-use borrow.Author.Rules.{rules}
 use Rattle.codec.specs.Header.{parsed_word}
 use Rattle.codec.specs.Ahead.{ahead_short}
 use Rattle.tetra_fields.specs.BasicSlotgrant.{read_slotgrant}

@@ -1,6 +1,5 @@
 use mathlib.Core.Path.{sym, ◌∙◌}
 use native.Mathlib.Omega.{arith}
-use borrow.Author.Rules.{rules}
 use Rattle.codec.specs.Piece.{row_holds}
 use Rattle.codec.specs.Encoded.{refused-encodes, piece_encodes}
 use Rattle.tetra_fields.proofs.fields.basic_slotgrant.slotgrant_encoded.Goals as goal

@@ -1,5 +1,4 @@
 use native.Mathlib.Omega.{arith}
-use borrow.Author.Rules.{rules}
 use borrow.Author.Tests.{le-leb, lt-leb}
 use Rattle.tetra_fields.specs.BasicSlotgrant.{slotgrant_refusal}
 use Rattle.tetra_fields.proofs.fields.basic_slotgrant.slotgrant_refusal.Goals as goal

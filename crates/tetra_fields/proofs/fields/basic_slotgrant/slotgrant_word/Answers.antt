@@ -1,4 +1,3 @@
-use borrow.Author.Rules.{rules}
 use Rattle.codec.specs.Row.{row_is}
 use Rattle.tetra_fields.specs.BasicSlotgrant.{slotgrant_row}
 use Rattle.tetra_fields.specs.Laws.BasicSlotgrant.{slotgrant_fits}

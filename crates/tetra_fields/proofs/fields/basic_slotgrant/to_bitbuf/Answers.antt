@@ -1,4 +1,3 @@
-use borrow.Author.Rules.{rules}
 use Rattle.codec.specs.Encoded.{encoded_written}
 use Rattle.tetra_fields.proofs.fields.basic_slotgrant.to_bitbuf.Goals as goal
 

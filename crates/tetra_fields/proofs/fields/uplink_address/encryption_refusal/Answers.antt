@@ -1,5 +1,4 @@
 use mathlib.Core.Path.{sym}
-use borrow.Author.Rules.{rules}
 use borrow.Author.Tests.{not-true}
 use Rattle.tetra_fields.specs.Laws.UplinkAddress.{clear_free}
 use Rattle.tetra_fields.proofs.fields.uplink_address.encryption_refusal.Goals as goal

@@ -1,4 +1,3 @@
-use borrow.Author.Rules.{rules}
 use Rattle.codec.specs.Header.{alone}
 use Rattle.codec.specs.Ahead.{onward, onward-none, ahead_field-short}
 use Rattle.tetra_fields.specs.UplinkAddress.{read_uplink_address}

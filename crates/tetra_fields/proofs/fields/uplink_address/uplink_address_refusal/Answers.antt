@@ -1,4 +1,3 @@
-use borrow.Author.Rules.{rules}
 use borrow.Author.Tests.{lt-ltb, le-ltb}
 use Rattle.tetra_fields.specs.UplinkAddress.{uplink_address_refusal}
 use Rattle.tetra_fields.specs.Laws.UplinkAddress.{too_wide_lem, narrow}

@@ -7,7 +7,6 @@ use native.Mathlib.Nat.{add_assoc}
 use lib.ListN.{drop}
 use lib.Dec.{lit≤}
 use lib.Pow.{shr_mod}
-use borrow.Author.Rules.{rules}
 use borrow.Author.Tests.{eq-eqb, ne_eqb}
 use Rattle.bits.specs.Bits.{bits_of_nat}
 use Rattle.codec.specs.Reader.{got, field_at, parse_bind}

@@ -1,5 +1,4 @@
 use mathlib.Core.Path.{sym, ◌∙◌}
-use borrow.Author.Rules.{rules}
 use Rattle.tetra_core.specs.Refusal.{first-here, first_skip, first_last}
 use Rattle.tetra_fields.specs.UplinkHead.{uplink_refusal}
 use Rattle.tetra_fields.proofs.fields.uplink_head.uplink_refusal.Goals as goal

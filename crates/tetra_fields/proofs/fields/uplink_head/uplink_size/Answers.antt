@@ -1,5 +1,4 @@
 use native.Mathlib.Omega.{arith}
-use borrow.Author.Rules.{rules}
 use Rattle.tetra_fields.proofs.fields.uplink_head.uplink_size.Goals as goal
 
 pub returns : goal.returns

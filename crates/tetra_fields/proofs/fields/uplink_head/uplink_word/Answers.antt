@@ -1,5 +1,4 @@
 use native.Mathlib.Omega.{arith}
-use borrow.Author.Rules.{rules}
 use borrow.Author.Tests.{eq-eqb, ne_eqb}
 use Rattle.tetra_fields.specs.UplinkAddress.{uplink_width}
 use Rattle.tetra_fields.specs.Laws.UplinkHead.{body_word}
