@@ -1,0 +1,23 @@
+use borrow.Author.Tests.{le-leb, lt-leb}
+use Rattle.tetra_mac.specs.ChannelAllocation.{channel_allocation_known}
+use Rattle.tetra_mac.proofs.allocation.channel_allocation_known.Goals as goal
+
+pub returns-then-words-lt-WORDS : goal.returns-then-words-lt-WORDS
+unfolding channel_allocation_known
+returns-then-words-lt-WORDS c = rw (lt-leb _ _ c.if-words-lt-WORDS.true)
+
+pub returns-then-words-gt3 : goal.returns-then-words-gt3
+unfolding channel_allocation_known
+returns-then-words-gt3 c = rw (le-leb _ _ c.if-words-lt-WORDS.false, lt-leb _ _ c.if-words-gt3.true)
+
+pub returns-then-words-gt15 : goal.returns-then-words-gt15
+unfolding channel_allocation_known
+returns-then-words-gt15 c = rw (le-leb _ _ c.if-words-lt-WORDS.false, le-leb _ _ c.if-words-gt3.false, lt-leb _ _ c.if-words-gt15.true)
+
+pub returns-then-words-gt3-2 : goal.returns-then-words-gt3-2
+unfolding channel_allocation_known
+returns-then-words-gt3-2 c = rw (le-leb _ _ c.if-words-lt-WORDS.false, le-leb _ _ c.if-words-gt3.false, le-leb _ _ c.if-words-gt15.false, lt-leb _ _ c.if-words-gt3-2.true)
+
+pub returns : goal.returns
+unfolding channel_allocation_known
+returns c = rw (le-leb _ _ c.if-words-lt-WORDS.false, le-leb _ _ c.if-words-gt3.false, le-leb _ _ c.if-words-gt15.false, le-leb _ _ c.if-words-gt3-2.false)

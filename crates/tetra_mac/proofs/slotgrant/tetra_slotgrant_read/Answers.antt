@@ -1,0 +1,20 @@
+use mathlib.Core.Path.{◌∙◌}
+use borrow.Author.Rules.{rules}
+use Rattle.tetra_mac.specs.Laws.Reply.{read_no_room, read-replied}
+use Rattle.tetra_mac.specs.Laws.Slotgrant.{slotgrant_bit_lem}
+use Rattle.tetra_mac.proofs.slotgrant.tetra_slotgrant_read.Goals as goal
+
+pub deny-requires : goal.deny-requires
+deny-requires c =
+    (search rules, slotgrant_bit_lem _ _ c.from_bitbuf-done.ensures c.in-Refused.is)
+
+pub returns-in-Read : goal.returns-in-Read
+returns-in-Read c =
+    rw (← c.from_bitbuf-done.ensures) (read-replied _ _ _ _ _ c.if-out-lt-READ_WORDS.false c.in-Read.is (c.give.ensures ∙ rw c.slotgrant_words-words.ensures))
+
+pub returns-in-Refused : goal.returns-in-Refused
+returns-in-Refused c =
+    rw (← c.from_bitbuf-done.ensures) (read-replied _ _ _ _ _ c.if-out-lt-READ_WORDS.false c.in-Refused.is c.deny.ensures)
+
+pub returns-then-out-lt-READ_WORDS : goal.returns-then-out-lt-READ_WORDS
+returns-then-out-lt-READ_WORDS c = read_no_room _ _ _ _ _ c.if-out-lt-READ_WORDS.true

@@ -1,0 +1,17 @@
+use mathlib.Core.Path.{ap, ◌∙◌}
+use Rattle.mac_resource.specs.Address.{is_null}
+use Rattle.mac_resource.specs.Laws.Encoded.{alone-encodes}
+use Rattle.mac_resource.specs.declared.mac_resource.MacResource.{MacResource}
+use Rattle.tetra_resource.specs.MacResource.{mac_resource_value}
+use Rattle.tetra_resource.specs.Laws.Parts.{null-same, front_same, alone-same, own_length}
+use Rattle.tetra_resource.proofs.encoded_alone.Goals as goal
+
+pub rest_of-requires : goal.rest_of-requires
+rest_of-requires c =
+    (c.requires, c.is_null_pdu.ensures ∙ ap (λ (h : MacResource). is_null h.addr) c.bare_of-h.ensures ∙ null-same c.args.words.now)
+
+pub returns : goal.returns
+returns c =
+    let ws = c.args.words.now in
+    rw (c.whole.ensures, c.alone_refusal-before.ensures, c.bare_of-h.ensures, alone-same ws)
+    (alone-encodes (mac_resource_value ws) (rw (own_length ws) at (front_same ws _ (rw c.bare_of-h.ensures at c.front_alone-front.ensures))) c.rest_of.ensures)

@@ -1,0 +1,16 @@
+use borrow.Author.Rules.{rules}
+use borrow.Author.Tests.{eq-eqb, ne_eqb}
+use Rattle.tetra_resource.specs.MacResource.{granting_known}
+use Rattle.tetra_resource.proofs.granting_known.Goals as goal
+
+pub returns-then-words-eq0 : goal.returns-then-words-eq0
+unfolding granting_known
+returns-then-words-eq0 c = rw (eq-eqb _ 0 c.if-words-eq0.true)
+
+pub slotgrant_known-requires : goal.slotgrant_known-requires
+unfolding granting_known
+slotgrant_known-requires c = search rules
+
+pub returns : goal.returns
+unfolding granting_known
+returns c = rw (c.slotgrant_known.ensures, ne_eqb _ 0 c.if-words-eq0.false)
