@@ -10,13 +10,13 @@ use lib.Seq.{length-take-le, take_at, drop_at, drop-cons, set_split, split_at, d
 use lib.Bits.{bit_or, or_shifted}
 use lib.Pow.{pow-add, pow_mono, high, low, shr_lt, shr_mod}
 use lib.Arith.{digits_lt}
-use Rattle.bits.specs.Laws.Shifts.{push_is, join_is, shl_is, within-is}
+use Rattle.bits.proofs.Laws.Shifts.{push_is, join_is, shl_is, within-is}
 use Rattle.bits.specs.Bits.{val, bits_of_nat, bits_of, pack, splice, bits_at, get_bits, put_bits, patch, Leading, Bytes}
-use Rattle.bits.specs.Laws.Values.{val-append, val_lt, length-bits_of_nat, val-bits_of_nat, bits_of_nat-val, bits_of_nat-add}
-use Rattle.bits.specs.Laws.Bytes.{bits_of_cons, length_bits_of, bits_of_append, drop_bits_of, bits_of_inj, bytes-set}
-use Rattle.bits.specs.Laws.Splice.{splice_mid}
-use Rattle.bits.specs.Laws.Reads.{get_bits_lt, at-is, get_is, bits_at_add, length_bits_at, get_bits-add, get_bits-part}
-use Rattle.bits.specs.Laws.Writes.{put_is, length-put_bits, bytes-put_bits, bits_of_put_bits, put_bits-append}
+use Rattle.bits.proofs.Laws.Values.{val-append, val_lt, length-bits_of_nat, val-bits_of_nat, bits_of_nat-val, bits_of_nat-add}
+use Rattle.bits.proofs.Laws.Bytes.{bits_of_cons, length_bits_of, bits_of_append, drop_bits_of, bits_of_inj, bytes-set}
+use Rattle.bits.proofs.Laws.Splice.{splice_mid}
+use Rattle.bits.proofs.Laws.Reads.{get_bits_lt, at-is, get_is, bits_at_add, length_bits_at, get_bits-add, get_bits-part}
+use Rattle.bits.proofs.Laws.Writes.{put_is, length-put_bits, bytes-put_bits, bits_of_put_bits, put_bits-append}
 
 pub patch_def : (b k m v : ℕ) → patch b k m v ≡ b / 2 ^ (k + m) * 2 ^ (k + m) + (v % 2 ^ k * 2 ^ m + b % 2 ^ m)
 unfolding patch

@@ -9,13 +9,13 @@ use borrow.Author.Tests.{le-leb, lt-leb}
 use lib.ListN.{length, take}
 use lib.Seq.{take_all, take-take, length-take-le}
 use Rattle.bits.specs.Bits.{bits_of, bits_at}
-use Rattle.bits.specs.Laws.Bytes.{take_bits_of}
+use Rattle.bits.proofs.Laws.Bytes.{take_bits_of}
 use Rattle.block_rules.specs.Numbers.{most_bits}
 use Rattle.block_rules.specs.Walk.{good_block, walk_from}
 use Rattle.block_rules.specs.Downlink.{downlink_reader}
 use Rattle.block_rules.specs.Demand3.{IsBlock}
-use Rattle.block_rules.specs.Laws.Walks.{from}
-use Rattle.block_rules.specs.Laws.Blocks.{block, good-block, walk_block}
+use Rattle.block_rules.proofs.Laws.Walks.{from}
+use Rattle.block_rules.proofs.Laws.Blocks.{block, good-block, walk_block}
 use Rattle.block_walk.specs.Positions.{walk_on, rest_from}
 use Rattle.block_lines.specs.Line.{lines_from}
 use Rattle.block_lines.specs.Listing.{block_text, listing_text}

@@ -13,8 +13,8 @@ use Rattle.mac_block.specs.declared.reader.BlockEntry.{BlockEntry}
 use Rattle.mac_block.specs.declared.reader.StepAnswer.{StepAnswer}
 use Rattle.block_rules.specs.Walk.{good_block, step, follow, walk_by, walk_from, walk}
 use Rattle.block_rules.specs.Downlink.{downlink_reader}
-use Rattle.block_rules.specs.Laws.Blocks.{held}
-use Rattle.block_rules.specs.Laws.Demand3Downlink.{demand_3_of_blocks}
+use Rattle.block_rules.proofs.Laws.Blocks.{held}
+use Rattle.block_rules.proofs.Laws.Demand3Downlink.{demand_3_of_blocks}
 use Rattle.block_walk.specs.declared.Position.{Position}
 use Rattle.block_walk.specs.declared.WalkStep.{WalkStep}
 use Rattle.block_walk.specs.Positions.{after, step_from, walk_on, rest_from}

@@ -9,4 +9,3 @@ pub mod Run
 pub mod Altered
 pub mod Demand3
 pub mod Downlink
-pub mod Laws

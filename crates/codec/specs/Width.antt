@@ -6,9 +6,3 @@ use Rattle.tetra_core.specs.Refusal.{unless, passed}
 -- the refusal of the value v in a field of w bits, or 0
 abbrev pub too_wide : (w v : ℕ) → ℕ
 too_wide w v = unless (ltb v (2 ^ w)) 3
-
--- ---- laws
-
--- a value that is not refused fits its field
-pub fits-field : (w v : ℕ) → too_wide w v ≡ 0 → v < 2 ^ w
-fits-field w v e = ltb-true v (2 ^ w) (passed _ 2 e)

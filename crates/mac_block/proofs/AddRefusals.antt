@@ -8,7 +8,7 @@ use lib.Dec.{leb}
 use Rattle.tetra_core.specs.Refusal.{unless, first, first-here, first_skip, first_last}
 use Rattle.block_rules.specs.Walk.{good_block}
 use Rattle.block_rules.specs.Writer.{good_bit, finish_refusal, check_of, refusal_of}
-use Rattle.block_rules.specs.Laws.Refusals.{finish_tests}
+use Rattle.block_rules.proofs.Laws.Refusals.{finish_tests}
 
 module _ (m j k bytes n p slice : ℕ) where
   abbrev last : List ℕ

@@ -12,9 +12,9 @@ use lib.Pow.{pow_mono}
 use lib.Seq.{length-take-le, take_at, drop_at, take-add, take-suc, take_all, drop-cons, drop-drop, get_or-drop, paste, paste-suc}
 use Rattle.bits.specs.Bits.{digit, odd, val, bits_of_nat, bits_at, get_bits, put_bits}
 use Rattle.tetra_core.specs.BitBuffer.{are_bits}
-use Rattle.bits.specs.Laws.Values.{digit-odd, val-nil, val-cons, val-append, val_lt, bits-suc, length-bits_of_nat}
-use Rattle.bits.specs.Laws.Reads.{bits_at_add, length_bits_at, bits_of_nat-get_bits}
-use Rattle.bits.specs.Laws.Spans.{goes_on}
+use Rattle.bits.proofs.Laws.Values.{digit-odd, val-nil, val-cons, val-append, val_lt, bits-suc, length-bits_of_nat}
+use Rattle.bits.proofs.Laws.Reads.{bits_at_add, length_bits_at, bits_of_nat-get_bits}
+use Rattle.bits.proofs.Laws.Spans.{goes_on}
 
 -- the bit i of the k bits of x
 pub bit_at : (k i x : ℕ) → i < k → get_or (map digit (bits_of_nat k x)) i 0 ≡ x / 2 ^ (k - 1 - i) % 2

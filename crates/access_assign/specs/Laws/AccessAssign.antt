@@ -5,19 +5,23 @@ use Rattle.std.proofs.Common.{sym, ap, ◌∙◌, arith, take-append-drop, lengt
 use Rattle.bits.specs.Bits.{bits_of_nat, val, bits_of, bits_at, splice, put_bits, Bytes}
 use Rattle.tetra_core.specs.BitBuffer.{good_window, remaining, moved}
 use Rattle.tetra_core.specs.Refusal.{first, first-none}
-use Rattle.bits.specs.Laws.Values.{bits_of_nat-val, val_lt}
-use Rattle.bits.specs.Laws.Bytes.{bits_of_inj}
-use Rattle.bits.specs.Laws.Reads.{at-is, length_bits_at}
-use Rattle.bits.specs.Laws.Writes.{bytes-put_bits, bits_of_put_bits}
+use Rattle.bits.proofs.Laws.Values.{bits_of_nat-val, val_lt}
+use Rattle.bits.proofs.Laws.Bytes.{bits_of_inj}
+use Rattle.bits.proofs.Laws.Reads.{at-is, length_bits_at}
+use Rattle.bits.proofs.Laws.Writes.{bytes-put_bits, bits_of_put_bits}
 use Rattle.tetra_core.specs.Laws.Windows.{Good, good_facts}
 use Rattle.tetra_core.specs.declared.bitbuffer.Cursor.{Cursor}
 use Rattle.tetra_core.specs.declared.bitbuffer.Outcome.{Outcome}
 use Rattle.codec.specs.Reader.{Out, got, refused, parse}
-use Rattle.codec.specs.Words.{parse-word, short}
-use Rattle.codec.specs.Header.{within, ends}
-use Rattle.codec.specs.Row.{row_bits, RowFits, length_row, row_is}
-use Rattle.codec.specs.Write.{refusal_at, free, free_test, write_done}
-use Rattle.codec.specs.RoundTrip.{parse_row, parse_row_lem, written_back}
+use Rattle.codec.proofs.Laws.Words.{parse-word, short}
+use Rattle.codec.specs.Header.{within}
+use Rattle.codec.proofs.Laws.Header.{ends}
+use Rattle.codec.specs.Row.{row_bits, RowFits}
+use Rattle.codec.proofs.Laws.Row.{length_row, row_is}
+use Rattle.codec.specs.Write.{refusal_at}
+use Rattle.codec.proofs.Laws.Write.{free, free_test, write_done}
+use Rattle.codec.specs.RoundTrip.{parse_row}
+use Rattle.codec.proofs.Laws.RoundTrip.{parse_row_lem, written_back}
 use Rattle.access_assign.specs.AccessField.{access_field_of}
 use Rattle.access_assign.specs.Usage.{dl_usage_of, dl_refusal, ul_marks, ul_usage_of, ul_refusal}
 use Rattle.access_assign.specs.AccessAssign.{assign_size, access_assign_of, read_access_assign, access_assign_at, header_number, field_one, field_two, access_assign_refusal, access_assign_row, access_assign_write, access_assign_written}

@@ -2,7 +2,7 @@
 use Rattle.std.specs.Prelude.{ℕ, ◌<◌, ◌≡◌, refl}
 use Rattle.std.proofs.Common.{arith, mod-eq_of_lt, lit<}
 use Rattle.std.proofs.Math.Pow.{high, low}
-use Rattle.codec.specs.AllBelow.{numbers}
+use Rattle.codec.proofs.Laws.AllBelow.{numbers}
 use Rattle.access_assign.specs.AccessField.{access_code_number, access_code_of, base_frame_length_number, base_frame_length_of, access_field_number, access_field_of}
 use Rattle.access_assign.specs.declared.enums.access_code.AccessCode.{AccessCode}
 use Rattle.access_assign.specs.declared.enums.access_code.AccessCode.TheVariants.{AccessCodeA, AccessCodeB, AccessCodeC, AccessCodeD}

@@ -4,7 +4,7 @@ use Rattle.std.proofs.Common.{arith, lit<, leb-true, le-leb, eqb-true, ne_eqb}
 use Rattle.std.proofs.Math.ListN.{get_or-eq_default}
 use Rattle.tetra_core.specs.Refusal.{unless, first, first-none, passed}
 use Rattle.tetra_core.specs.Laws.Windows.{and_both}
-use Rattle.codec.specs.AllBelow.{below}
+use Rattle.codec.proofs.Laws.AllBelow.{below}
 use Rattle.access_assign.specs.Usage.{traffic_refusal, dl_marker, dl_names, dl_usage_of, dl_refusal, ul_marker, marker_number, ul_marks, ul_usage_of, ul_usage, ul_refusal}
 use Rattle.access_assign.specs.declared.enums.access_assign_dl_usage.AccessAssignDlUsage.{AccessAssignDlUsage}
 use Rattle.access_assign.specs.declared.enums.access_assign_dl_usage.AccessAssignDlUsage.TheVariants as Dl'

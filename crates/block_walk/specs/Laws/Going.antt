@@ -5,7 +5,7 @@ use Rattle.std.proofs.Common.{sym, ap, ◌∙◌, arith}
 use Rattle.std.proofs.Math.Decide.{dec_le}
 use borrow.Author.Tests.{lt-leb}
 use Rattle.bits.specs.Bits.{bits_at}
-use Rattle.bits.specs.Laws.Reads.{length_bits_at}
+use Rattle.bits.proofs.Laws.Reads.{length_bits_at}
 use Rattle.block_rules.specs.declared.extent.Extent.{Extent}
 use Rattle.mac_block.specs.declared.reader.BlockEntry.{BlockEntry}
 use Rattle.mac_block.specs.declared.reader.StepAnswer.{StepAnswer}
@@ -16,9 +16,9 @@ use Rattle.block_rules.specs.Walk.{good_block, Pdu, Entry, Step, Walk, step_of, 
 use Rattle.block_rules.specs.Downlink.{DownlinkHeader, downlink_reader}
 use Rattle.mac_block.specs.Answers.{sized_entry, entry_of, step_answer}
 use Rattle.block_rules.specs.Demand3.{IsBlock}
-use Rattle.block_rules.specs.Laws.Extents.{Bounds, bounds}
-use Rattle.block_rules.specs.Laws.Blocks.{held, length-block, step_there}
-use Rattle.block_rules.specs.Laws.Demand3Downlink.{demand_3_of_blocks}
+use Rattle.block_rules.proofs.Laws.Extents.{Bounds, bounds}
+use Rattle.block_rules.proofs.Laws.Blocks.{held, length-block, step_there}
+use Rattle.block_rules.proofs.Laws.Demand3Downlink.{demand_3_of_blocks}
 use Rattle.block_walk.specs.declared.Position.{Position}
 use Rattle.block_walk.specs.declared.WalkStep.{WalkStep}
 use Rattle.block_walk.specs.Positions.{after_end, after_entry, after, step_from, walk_on, rest_from, NullFits}

@@ -10,16 +10,21 @@ use borrow.Author.Tests.{ltb-true, eqb-true, eqb-false, lt-ltb, eq-eqb, ne_eqb, 
 use Rattle.bits.specs.Bits.{digit, bits_of_nat}
 use Rattle.tetra_core.specs.BitBuffer.{moved}
 use Rattle.tetra_core.specs.Refusal.{unless, first, first-none, passed}
-use Rattle.bits.specs.Laws.Values.{digit_lt}
+use Rattle.bits.proofs.Laws.Values.{digit_lt}
 use Rattle.tetra_core.specs.declared.bitbuffer.Cursor.{Cursor}
 use Rattle.codec.specs.Reader.{got, parse}
-use Rattle.codec.specs.Words.{field-alone}
-use Rattle.codec.specs.Row.{cell, size, row_bits, RowFits, length_row}
-use Rattle.codec.specs.Write.{refusal_at, free}
-use Rattle.codec.specs.RoundTrip.{parse_row, parse_row_lem, written_back}
-use Rattle.codec.specs.WrittenAgain.{Every, every_read}
-use Rattle.codec.specs.Cases.{flag, flag-back, flag-again}
-use Rattle.codec.specs.AllBelow.{numbers}
+use Rattle.codec.proofs.Laws.Words.{field-alone}
+use Rattle.codec.specs.Row.{cell, size, row_bits, RowFits}
+use Rattle.codec.proofs.Laws.Row.{length_row}
+use Rattle.codec.specs.Write.{refusal_at}
+use Rattle.codec.proofs.Laws.Write.{free}
+use Rattle.codec.specs.RoundTrip.{parse_row}
+use Rattle.codec.proofs.Laws.RoundTrip.{parse_row_lem, written_back}
+use Rattle.codec.specs.WrittenAgain.{Every}
+use Rattle.codec.proofs.Laws.WrittenAgain.{every_read}
+use Rattle.codec.specs.Cases.{flag}
+use Rattle.codec.proofs.Laws.Cases.{flag-back, flag-again}
+use Rattle.codec.proofs.Laws.AllBelow.{numbers}
 use Rattle.channel_allocation.specs.ChannelAllocation.{alloc_type_number, alloc_type_of, ul_dl_number, ul_dl_of, ul_dl_refusal, timeslots_number, timeslots_of, frame18_number, read_mon_patterns, read_channel_allocation, channel_allocation_at, pattern_refusal, frame18_refusal, len_refusal, channel_allocation_refusal, head_len, head_row, patterns_row, channel_allocation_bits, channel_allocation_least, channel_allocation_most, channel_allocation_len, len_or, compute_len, channel_allocation_written, normal_channel_allocation}
 use Rattle.channel_allocation.specs.declared.enums.alloc_type.ChanAllocType.{ChanAllocType}
 use Rattle.channel_allocation.specs.declared.enums.alloc_type.ChanAllocType.TheVariants.{Replace, Additional, QuitAndGo, ReplaceWithCarrierSignalling}

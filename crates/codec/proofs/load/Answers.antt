@@ -1,7 +1,7 @@
 use mathlib.Core.Path.{refl}
 use native.Mathlib.Omega.{arith}
-use Rattle.codec.specs.Header.{length_left}
-use Rattle.codec.specs.Ahead.{held_ahead, held_none}
+use Rattle.codec.proofs.Laws.Header.{length_left}
+use Rattle.codec.proofs.Laws.Ahead.{held_ahead, held_none}
 use Rattle.codec.proofs.load.Goals as goal
 
 pub returns-then-size-o : goal.returns-then-size-o

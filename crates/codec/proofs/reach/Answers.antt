@@ -3,7 +3,7 @@ use native.Mathlib.Omega.{arith}
 use Prim.Native.Nat.{◌-◌}
 use mathlib.Core.Path.{◌∙◌}
 use native.Mathlib.Nat.{zero-add, sub-zero, add_assoc, sub-add-eq}
-use Rattle.codec.specs.Words.{short_stop, short_more, short-end}
+use Rattle.codec.proofs.Laws.Words.{short_stop, short_more, short-end}
 use Rattle.codec.proofs.reach.Goals as goal
 
 pub loop-i-init : goal.loop-i-init

@@ -4,7 +4,7 @@ use borrow.Author.Tests.{le-leb, lt-leb}
 use Rattle.tetra_core.specs.BitBuffer.{good_window}
 use Rattle.tetra_core.specs.Refusal.{first, first_skip, first-here}
 use Rattle.tetra_core.specs.Laws.Windows.{good_facts}
-use Rattle.codec.specs.Header.{bad-seen, good-seen}
+use Rattle.codec.proofs.Laws.Header.{bad-seen, good-seen}
 use Rattle.codec.specs.Write.{refusal_at}
 use Rattle.codec.proofs.write_refusal.Goals.{Else-not-good_window}
 use Rattle.codec.proofs.write_refusal.Goals as goal

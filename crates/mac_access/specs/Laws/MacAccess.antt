@@ -5,16 +5,19 @@ use Rattle.std.proofs.Math.Nat.{sub-zero}
 use Rattle.bits.specs.Bits.{Bytes}
 use Rattle.tetra_core.specs.BitBuffer.{moved}
 use Rattle.tetra_core.specs.Refusal.{passed}
-use Rattle.bits.specs.Laws.Values.{digit_lt}
+use Rattle.bits.proofs.Laws.Values.{digit_lt}
 use Rattle.tetra_core.specs.declared.bitbuffer.Cursor.{Cursor}
 use Rattle.tetra_core.specs.declared.bitbuffer.Outcome.TheVariants.{Done}
 use Rattle.codec.specs.Reader.{got, parse}
 use Rattle.codec.specs.Header.{within}
-use Rattle.codec.specs.Row.{size, row_bits, RowFits, rows_append}
-use Rattle.codec.specs.Write.{refusal_at, free}
-use Rattle.codec.specs.RoundTrip.{parse_row_lem, written_back}
-use Rattle.codec.specs.WrittenAgain.{Every, every_read, read_at, written-again}
-use Rattle.codec.specs.Cases.{flag-back, flag-again, one_again}
+use Rattle.codec.specs.Row.{size, row_bits, RowFits}
+use Rattle.codec.proofs.Laws.Row.{rows_append}
+use Rattle.codec.specs.Write.{refusal_at}
+use Rattle.codec.proofs.Laws.Write.{free}
+use Rattle.codec.proofs.Laws.RoundTrip.{parse_row_lem, written_back}
+use Rattle.codec.specs.WrittenAgain.{Every}
+use Rattle.codec.proofs.Laws.WrittenAgain.{every_read, read_at, written-again}
+use Rattle.codec.proofs.Laws.Cases.{flag-back, flag-again, one_again}
 use Rattle.tetra_fields.specs.UplinkAddress.{encryption_refusal}
 use Rattle.tetra_fields.specs.Laws.ReservationRequirement.{reservation_back, reservation_again}
 use Rattle.tetra_fields.specs.Laws.UplinkHead.{allowed, allowed_test, uplink_length, uplink_back, uplink_every}

@@ -9,7 +9,7 @@ use Rattle.block_rules.specs.Ending.{length_of}
 use Rattle.block_rules.specs.Codec.{HeaderWriter}
 use Rattle.block_rules.specs.Writer as writer
 use Rattle.block_rules.specs.Writer.{Writer, after, refusal_of, add_of, added_of, added_bits, added, add_to}
-use Rattle.block_rules.specs.Laws.Refusals.{roomy}
+use Rattle.block_rules.proofs.Laws.Refusals.{roomy}
 use Rattle.mac_block.specs.declared.writer.Written.{Written}
 use Rattle.mac_block.specs.Answers.{add_answer}
 use Rattle.mac_block.specs.Added.{encoded_to, encoded_answer}

@@ -8,7 +8,8 @@ use native.Mathlib.Nat.{add-zero}
 use Rattle.bits.specs.Bits.{bits_of_nat}
 use Rattle.tetra_core.specs.Refusal.{first, first-parts}
 use Rattle.codec.specs.Row.{row_bits}
-use Rattle.codec.specs.Encoded.{EncodesOne, no_tail, no_tail_encodes, no-piece-encodes, whole_of, Spaced, whole-encodes}
+use Rattle.codec.specs.Encoded.{EncodesOne, no_tail, no-piece-encodes, whole_of, Spaced}
+use Rattle.codec.proofs.Laws.Encoded.{no_tail_encodes, whole-encodes}
 use Rattle.codec.specs.Width.{too_wide}
 use Rattle.codec.specs.declared.encoded.Encoded.{Encoded}
 use Rattle.optional_elements.specs.GrantAndAllocation.{grant_and_allocation_len, grant_and_allocation_refusal}

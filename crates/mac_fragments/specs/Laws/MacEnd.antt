@@ -10,17 +10,22 @@ use lib.Dec.{lit<}
 use lib.ListN.{length, take, drop, length-append}
 use borrow.Author.Tests.{lt-ltb}
 use Rattle.bits.specs.Bits.{digit, val}
-use Rattle.bits.specs.Laws.Values.{digit_lt}
+use Rattle.bits.proofs.Laws.Values.{digit_lt}
 use Rattle.tetra_core.specs.Refusal.{first, first-none, first_skip, first_last, first-behind}
 use Rattle.tetra_core.specs.BitBuffer.{moved}
 use Rattle.tetra_core.specs.declared.bitbuffer.Cursor.{Cursor}
-use Rattle.codec.specs.Reader.{got, done, ◌>>=◌, parse, parse_bind, inside}
-use Rattle.codec.specs.Row.{cell, row_bits, RowFits, length_row, cell-behind}
-use Rattle.codec.specs.Write.{refusal_at, free}
-use Rattle.codec.specs.Width.{too_wide, fits-field}
-use Rattle.codec.specs.RoundTrip.{parse_row_lem, written_back}
-use Rattle.codec.specs.WrittenAgain.{Every, every_read, every_bind}
-use Rattle.codec.specs.Cases.{flag-back}
+use Rattle.codec.specs.Reader.{got, done, ◌>>=◌, parse}
+use Rattle.codec.proofs.Laws.Reader.{parse_bind, inside}
+use Rattle.codec.specs.Row.{cell, row_bits, RowFits, cell-behind}
+use Rattle.codec.proofs.Laws.Row.{length_row}
+use Rattle.codec.specs.Write.{refusal_at}
+use Rattle.codec.proofs.Laws.Write.{free}
+use Rattle.codec.specs.Width.{too_wide}
+use Rattle.codec.proofs.Laws.Width.{fits-field}
+use Rattle.codec.proofs.Laws.RoundTrip.{parse_row_lem, written_back}
+use Rattle.codec.specs.WrittenAgain.{Every}
+use Rattle.codec.proofs.Laws.WrittenAgain.{every_read, every_bind}
+use Rattle.codec.proofs.Laws.Cases.{flag-back}
 use Rattle.optional_elements.specs.GrantAndAllocation.{read_grant_and_allocation, grant_and_allocation_refusal, grant_and_allocation_bits}
 use Rattle.optional_elements.specs.Laws.GrantAndAllocation.{grant_and_allocation-length, grant_and_allocation-bounds, grant_and_allocation-back, GrantAndAllocationAgain, grant_and_allocation_every}
 use Rattle.mac_fragments.specs.TypeAndFill.{read_behind_type, read_type_and_fill, type_and_fill_row}

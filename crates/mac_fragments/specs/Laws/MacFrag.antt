@@ -10,12 +10,15 @@ use lib.ListN.{length, take, drop}
 use Rattle.bits.specs.Bits.{digit, val}
 use Rattle.tetra_core.specs.BitBuffer.{moved}
 use Rattle.tetra_core.specs.declared.bitbuffer.Cursor.{Cursor}
-use Rattle.codec.specs.Reader.{got, parse, inside}
-use Rattle.codec.specs.Row.{cell, length_row, cell-behind}
+use Rattle.codec.specs.Reader.{got, parse}
+use Rattle.codec.proofs.Laws.Reader.{inside}
+use Rattle.codec.specs.Row.{cell, cell-behind}
+use Rattle.codec.proofs.Laws.Row.{length_row}
 use Rattle.codec.specs.Write.{refusal_at}
-use Rattle.codec.specs.RoundTrip.{parse_row_lem, written_back}
-use Rattle.codec.specs.WrittenAgain.{Every, every_read, every_bind}
-use Rattle.codec.specs.Cases.{flag-back}
+use Rattle.codec.proofs.Laws.RoundTrip.{parse_row_lem, written_back}
+use Rattle.codec.specs.WrittenAgain.{Every}
+use Rattle.codec.proofs.Laws.WrittenAgain.{every_read, every_bind}
+use Rattle.codec.proofs.Laws.Cases.{flag-back}
 use Rattle.mac_fragments.specs.TypeAndFill.{read_behind_type, read_type_and_fill, type_and_fill_row}
 use Rattle.mac_fragments.specs.MacFrag.{mac_frag_len, mac_frag_of, read_mac_frag, mac_frag_at, mac_frag_bits, mac_frag_written}
 use Rattle.mac_fragments.specs.Laws.TypeAndFill.{type_and_fill-fits, type_and_fill_every}

@@ -4,10 +4,10 @@ use mathlib.Core.Path.{◌≡◌}
 use mathlib.Core.Bool.{Bool}
 use lib.Dec.{lit<}
 use borrow.Author.Tests.{eqb-true}
-use Rattle.bits.specs.Laws.Values.{digit_lt}
+use Rattle.bits.proofs.Laws.Values.{digit_lt}
 use Rattle.codec.specs.Row.{row_bits, RowFits}
 use Rattle.codec.specs.WrittenAgain.{Every}
-use Rattle.codec.specs.Cases.{flag-again}
+use Rattle.codec.proofs.Laws.Cases.{flag-again}
 use Rattle.mac_fragments.specs.TypeAndFill.{read_behind_type, read_type_and_fill, type_and_fill_row}
 
 pub type_and_fill-fits : (subtype : ℕ) (fill : Bool) → subtype < 2 → RowFits (type_and_fill_row subtype fill)

@@ -3,10 +3,11 @@ use Rattle.std.specs.Prelude.{ℕ, ◌+◌, ◌≡◌, refl, [], ◌∷◌, ◌+
 use Rattle.std.proofs.Common.{sym, ◌∙◌, append-nil, arith}
 use Rattle.std.proofs.Math.Nat.{add-zero}
 use Rattle.bits.specs.Bits.{digit, bits_of_nat}
-use Rattle.bits.specs.Laws.Values.{bits-zero}
+use Rattle.bits.proofs.Laws.Values.{bits-zero}
 use Rattle.tetra_core.specs.Refusal.{unless, first, first-parts}
 use Rattle.codec.specs.Row.{row_bits}
-use Rattle.codec.specs.Encoded.{no_tail, no_tail_encodes, whole_of, Spaced, whole-encodes, piece_encodes}
+use Rattle.codec.specs.Encoded.{no_tail, whole_of, Spaced}
+use Rattle.codec.proofs.Laws.Encoded.{no_tail_encodes, whole-encodes, piece_encodes}
 use Rattle.codec.specs.declared.encoded.Encoded.{Encoded}
 use Rattle.codec.specs.Width.{too_wide}
 use Rattle.mac_resource.specs.Address.{type_of, is_null, addr_type_number, address_len, address_row}

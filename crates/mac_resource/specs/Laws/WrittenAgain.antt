@@ -8,9 +8,10 @@ use Rattle.tetra_core.specs.declared.bitbuffer.Cursor.{Cursor}
 use Rattle.codec.specs.Reader.{got, parse}
 use Rattle.codec.specs.Header.{within}
 use Rattle.codec.specs.Row.{row_bits}
-use Rattle.codec.specs.WrittenAgain.{Every, every_read, every_bind, read_at}
-use Rattle.codec.specs.AllBelow.{numbers}
-use Rattle.codec.specs.Cases.{flag-again}
+use Rattle.codec.specs.WrittenAgain.{Every}
+use Rattle.codec.proofs.Laws.WrittenAgain.{every_read, every_bind, read_at}
+use Rattle.codec.proofs.Laws.AllBelow.{numbers}
+use Rattle.codec.proofs.Laws.Cases.{flag-again}
 use Rattle.mac_resource.specs.Address.{addr_type_number, addr_type_of, type_of, is_null, read_address, one, two, address_refusal, address_row, normal_address}
 use Rattle.mac_resource.specs.Fixed.{read_fixed, read_behind_type, FixedFits, fixed_row}
 use Rattle.optional_elements.specs.Elements.{read_elements}

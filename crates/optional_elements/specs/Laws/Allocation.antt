@@ -1,9 +1,12 @@
 -- Channel allocation: how long it is, what was written is read back, and what was read is written again.
 use Rattle.std.specs.Prelude.{ℕ, ◌+◌, ◌≤◌, ◌≡◌, refl, List, [], ◌++◌, Bool, length}
 use Rattle.std.proofs.Common.{ap, append-nil, arith, add_assoc, lit≤, length-append}
-use Rattle.codec.specs.Reader.{got, parse, parse_bind}
-use Rattle.codec.specs.Row.{row_bits, length_row}
-use Rattle.codec.specs.WrittenAgain.{Every, every_bind}
+use Rattle.codec.specs.Reader.{got, parse}
+use Rattle.codec.proofs.Laws.Reader.{parse_bind}
+use Rattle.codec.specs.Row.{row_bits}
+use Rattle.codec.proofs.Laws.Row.{length_row}
+use Rattle.codec.specs.WrittenAgain.{Every}
+use Rattle.codec.proofs.Laws.WrittenAgain.{every_bind}
 use Rattle.channel_allocation.specs.ChannelAllocation.{read_channel_allocation, channel_allocation_bits}
 use Rattle.channel_allocation.specs.Laws.ChannelAllocation.{channel_allocation-length, channel_allocation-len, channel_allocation-back, ChannelAllocationAgain, channel_allocation_every}
 use Rattle.optional_elements.specs.Allocation.{allocation_most, allocation_len, allocation_element, read_allocation, allocation_refusal, flag_row, allocation_bits, normal_allocation}

@@ -7,12 +7,15 @@ use Rattle.std.proofs.Math.Nat.{add_assoc}
 use Rattle.bits.specs.Bits.{bits_of_nat}
 use Rattle.tetra_core.specs.Refusal.{first, first-none, first_skip, first_last}
 use Rattle.codec.specs.declared.Ahead.{Ahead}
-use Rattle.codec.specs.Reader.{got, parse, parse_bind}
+use Rattle.codec.specs.Reader.{got, parse}
+use Rattle.codec.proofs.Laws.Reader.{parse_bind}
 use Rattle.codec.specs.Header.{Word}
 use Rattle.codec.specs.Ahead.{next_bits, Held, Ready}
 use Rattle.codec.specs.Row.{row_bits}
-use Rattle.codec.specs.Encoded.{EncodesOne, piece_encodes}
-use Rattle.codec.specs.WrittenAgain.{Every, every_bind}
+use Rattle.codec.specs.Encoded.{EncodesOne}
+use Rattle.codec.proofs.Laws.Encoded.{piece_encodes}
+use Rattle.codec.specs.WrittenAgain.{Every}
+use Rattle.codec.proofs.Laws.WrittenAgain.{every_bind}
 use Rattle.optional_elements.specs.PowerControl.{read_power, power_refusal}
 use Rattle.optional_elements.specs.GrantAndAllocation.{read_grant_and_allocation, grant_and_allocation_refusal, grant_and_allocation_bits}
 use Rattle.optional_elements.specs.Elements.{flags_len, elements_most, elements_len, no_elements, is_bare, no_element, read_elements, elements_refusal, elements_bits, normal_elements}

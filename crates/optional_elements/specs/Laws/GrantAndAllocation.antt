@@ -5,8 +5,10 @@ use mathlib.Core.List.{List, ◌++◌, append_assoc, append-nil}
 use Rattle.std.proofs.Common.{arith, length-append}
 use Rattle.std.proofs.Math.Nat.{add_assoc}
 use Rattle.tetra_core.specs.Refusal.{first-none, first_skip, first_last}
-use Rattle.codec.specs.Reader.{got, parse, parse_bind}
-use Rattle.codec.specs.WrittenAgain.{Every, every_bind}
+use Rattle.codec.specs.Reader.{got, parse}
+use Rattle.codec.proofs.Laws.Reader.{parse_bind}
+use Rattle.codec.specs.WrittenAgain.{Every}
+use Rattle.codec.proofs.Laws.WrittenAgain.{every_bind}
 use Rattle.optional_elements.specs.SlotGranting.{read_granting, granting_refusal}
 use Rattle.optional_elements.specs.Allocation.{read_allocation, allocation_refusal}
 use Rattle.optional_elements.specs.GrantAndAllocation.{grant_and_allocation_most, grant_and_allocation_len, read_grant_and_allocation, grant_and_allocation_refusal, grant_and_allocation_bits, normal_grant_and_allocation}

@@ -5,13 +5,15 @@ use borrow.Author.Tests.{eqb-true, not-true, not-false, eq-eqb, ne_eqb}
 use Rattle.bits.specs.Bits.{bits_of_nat}
 use Rattle.codec.specs.declared.Ahead.{Ahead}
 use Rattle.codec.specs.Reader.{got, refused, Reader, parse}
-use Rattle.codec.specs.Words.{field-alone}
-use Rattle.codec.specs.Header.{Word, alone}
-use Rattle.codec.specs.Ahead.{Held, ahead_field-short}
+use Rattle.codec.proofs.Laws.Words.{field-alone}
+use Rattle.codec.specs.Header.{Word}
+use Rattle.codec.proofs.Laws.Header.{alone}
+use Rattle.codec.specs.Ahead.{Held}
+use Rattle.codec.proofs.Laws.Ahead.{ahead_field-short}
 use Rattle.codec.specs.Row.{Cell, cell, row_bits}
-use Rattle.codec.specs.RoundTrip.{parse_row_lem}
+use Rattle.codec.proofs.Laws.RoundTrip.{parse_row_lem}
 use Rattle.codec.specs.WrittenAgain.{Every}
-use Rattle.codec.specs.Cases.{one_again}
+use Rattle.codec.proofs.Laws.Cases.{one_again}
 use Rattle.optional_elements.specs.Optional.{optional}
 
 module _ {A : Type 0} (p : Reader A) (a : A) where

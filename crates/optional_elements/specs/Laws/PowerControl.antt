@@ -2,10 +2,11 @@
 use Rattle.std.specs.Prelude.{ℕ, ◌+◌, ◌^◌, ◌≤◌, ◌≡◌, refl, List, [], ◌∷◌, ◌++◌, Bool, length}
 use Rattle.std.proofs.Common.{add_assoc, lit≤, lt-ltb}
 use Rattle.codec.specs.Reader.{got, parse}
-use Rattle.codec.specs.Row.{cell, row_bits, length_row}
-use Rattle.codec.specs.RoundTrip.{parse_row_lem}
+use Rattle.codec.specs.Row.{cell, row_bits}
+use Rattle.codec.proofs.Laws.Row.{length_row}
+use Rattle.codec.proofs.Laws.RoundTrip.{parse_row_lem}
 use Rattle.codec.specs.WrittenAgain.{Every}
-use Rattle.codec.specs.Width.{fits-field}
+use Rattle.codec.proofs.Laws.Width.{fits-field}
 use Rattle.optional_elements.specs.PowerControl.{power_most, power_len, power_element, read_power, power_refusal, power_row}
 use Rattle.optional_elements.specs.Laws.Optional.{optional-zero, optional-one, optional_every}
 use Rattle.optional_elements.specs.declared.power_control.OptionalPower.{OptionalPower}

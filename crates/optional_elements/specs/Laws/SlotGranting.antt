@@ -1,9 +1,12 @@
 -- Slot granting: how long it is, what was written is read back, and what was read is written again.
 use Rattle.std.specs.Prelude.{ℕ, ◌+◌, ◌≤◌, ◌≡◌, refl, List, ◌++◌, Bool, length}
 use Rattle.std.proofs.Common.{append-nil, add_assoc, lit≤}
-use Rattle.codec.specs.Reader.{got, parse, parse_bind}
-use Rattle.codec.specs.Row.{row_bits, length_row}
-use Rattle.codec.specs.WrittenAgain.{Every, every_bind}
+use Rattle.codec.specs.Reader.{got, parse}
+use Rattle.codec.proofs.Laws.Reader.{parse_bind}
+use Rattle.codec.specs.Row.{row_bits}
+use Rattle.codec.proofs.Laws.Row.{length_row}
+use Rattle.codec.specs.WrittenAgain.{Every}
+use Rattle.codec.proofs.Laws.WrittenAgain.{every_bind}
 use Rattle.tetra_fields.specs.BasicSlotgrant.{read_slotgrant, slotgrant_row}
 use Rattle.tetra_fields.specs.Laws.BasicSlotgrant.{slotgrant_back, SlotgrantAgain, slotgrant_every}
 use Rattle.optional_elements.specs.SlotGranting.{granting_most, granting_len, granting_element, read_granting, granting_refusal, granting_row}

@@ -1,9 +1,9 @@
 use mathlib.Core.Path.{sym, ap, ◌∙◌}
 use borrow.Author.Rules.{rules}
 use borrow.Author.Tests.{not-false}
-use Rattle.codec.specs.Encoded.{settable}
+use Rattle.codec.proofs.Laws.Encoded.{settable}
 use Rattle.block_rules.specs.Downlink.{downlink_writer}
-use Rattle.block_rules.specs.Laws.Downlink.{length<64}
+use Rattle.block_rules.proofs.Laws.Downlink.{length<64}
 use Rattle.mac_block.specs.Laws.Added.{header-added}
 use Rattle.tetra_block.specs.Block.{writer_moved}
 use Rattle.tetra_mac.specs.Laws.Reply.{write_no_room, record_unknown, record_replied}

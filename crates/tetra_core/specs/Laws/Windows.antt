@@ -6,7 +6,7 @@ use Rattle.bits.specs.Bits.{get_bits, bits_of_nat}
 use Rattle.tetra_core.specs.Refusal.{unless, first, first-none, passed}
 use Rattle.tetra_core.specs.Quantity.{octets_of}
 use Rattle.tetra_core.specs.BitBuffer.{room_refusal, good_window, at, moved, after, bytes_after, reads, read_refused, moves, changed, peek_at, peek_place, seek_place, read_refusal, read_bits, write_refusal, written, outcome, copy_refusal, remaining, into_slice_refusal, window_len, bitvec_refusal, are_bits, from_bitarr_refusal}
-use Rattle.bits.specs.Laws.Writes.{length-put_bits, get_bits-put_bits}
+use Rattle.bits.proofs.Laws.Writes.{length-put_bits, get_bits-put_bits}
 use Rattle.tetra_core.specs.declared.bitbuffer.Cursor.{Cursor}
 use Rattle.tetra_core.specs.declared.bitbuffer.BitsAnswer.TheVariants.{Value, Refused}
 use Rattle.tetra_core.specs.declared.bitbuffer.Outcome.TheVariants as Outcome'

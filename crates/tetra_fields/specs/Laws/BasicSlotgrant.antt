@@ -6,11 +6,14 @@ use Rattle.tetra_core.specs.Refusal.{passed}
 use Rattle.tetra_core.specs.Laws.Windows.{and_both}
 use Rattle.tetra_core.specs.declared.bitbuffer.Cursor.{Cursor}
 use Rattle.codec.specs.Reader.{got, parse}
-use Rattle.codec.specs.Row.{row_bits, RowFits, length_row}
-use Rattle.codec.specs.Write.{refusal_at, free}
-use Rattle.codec.specs.RoundTrip.{parse_row_lem, written_back}
-use Rattle.codec.specs.WrittenAgain.{Every, every_read}
-use Rattle.codec.specs.AllBelow.{below, numbers}
+use Rattle.codec.specs.Row.{row_bits, RowFits}
+use Rattle.codec.proofs.Laws.Row.{length_row}
+use Rattle.codec.specs.Write.{refusal_at}
+use Rattle.codec.proofs.Laws.Write.{free}
+use Rattle.codec.proofs.Laws.RoundTrip.{parse_row_lem, written_back}
+use Rattle.codec.specs.WrittenAgain.{Every}
+use Rattle.codec.proofs.Laws.WrittenAgain.{every_read}
+use Rattle.codec.proofs.Laws.AllBelow.{below, numbers}
 use Rattle.tetra_fields.specs.BasicSlotgrant.{slotgrant_size, cap_alloc_number, cap_alloc_of, delay_number, delay_of, delay_refusal, read_slotgrant, slotgrant_at, slotgrant_refusal, slotgrant_row, slotgrant_written}
 use Rattle.tetra_fields.specs.declared.enums.basic_slotgrant_cap_alloc.BasicSlotgrantCapAlloc.{BasicSlotgrantCapAlloc}
 use Rattle.tetra_fields.specs.declared.enums.basic_slotgrant_cap_alloc.BasicSlotgrantCapAlloc.TheVariants.{FirstSubslotGranted, Grant1Slot, Grant2Slots, Grant3Slots, Grant4Slots, Grant5Slots, Grant6Slots, Grant8Slots, Grant10Slots, Grant13Slots, Grant17Slots, Grant24Slots, Grant34Slots, Grant51Slots, Grant68Slots, SecondSubslotGranted}

@@ -3,7 +3,7 @@ use Rattle.std.specs.Prelude.{ℕ, zero, suc, ◌<◌, ◌≡◌, refl, List, []
 use Rattle.std.proofs.Common.{sym, arith, lit<, leb-true, ne_eqb}
 use Rattle.std.proofs.lemmas.Bool.{lt-leb}
 use Rattle.tetra_core.specs.Laws.Windows.{and_both}
-use Rattle.codec.specs.AllBelow.{numbers}
+use Rattle.codec.proofs.Laws.AllBelow.{numbers}
 use Rattle.tetra_fields.specs.ReservationRequirement.{reservation_number, reservation_of, reservations, slotcount, enough, first_for, reservation_for}
 use Rattle.tetra_fields.specs.declared.enums.reservation_requirement.ReservationRequirement.{ReservationRequirement}
 use Rattle.tetra_fields.specs.declared.enums.reservation_requirement.ReservationRequirement.TheVariants.{Req1Subslot, Req1Slot, Req2Slots, Req3Slots, Req4Slots, Req5Slots, Req6Slots, Req8Slots, Req10Slots, Req13Slots, Req17Slots, Req24Slots, Req34Slots, Req51Slots, Req68Slots, ReqOver68}

@@ -5,7 +5,7 @@ use Rattle.tetra_core.specs.Address.{uplink_address_type}
 use Rattle.tetra_core.specs.Refusal.{passed}
 use Rattle.tetra_core.specs.declared.address.UplinkAddress.{UplinkAddress}
 use Rattle.tetra_core.specs.declared.address.UplinkAddress.TheVariants.{Ssi, EventLabel, Ussi, Smi}
-use Rattle.codec.specs.AllBelow.{numbers}
+use Rattle.codec.proofs.Laws.AllBelow.{numbers}
 use Rattle.tetra_fields.specs.UplinkAddress.{uplink_width, uplink_of, uplink_number, uplink_address_refusal, encryption_refusal, normal_uplink}
 
 -- ---- widths

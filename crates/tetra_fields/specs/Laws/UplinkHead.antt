@@ -9,14 +9,17 @@ use Rattle.std.proofs.lemmas.Bool.{not-false}
 use Rattle.tetra_core.specs.Address.{uplink_address_type}
 use Rattle.bits.specs.Bits.{digit, bits_of_nat}
 use Rattle.tetra_core.specs.Refusal.{first, first-none}
-use Rattle.bits.specs.Laws.Values.{digit_lt}
+use Rattle.bits.proofs.Laws.Values.{digit_lt}
 use Rattle.tetra_core.specs.declared.address.UplinkAddress.{UplinkAddress}
-use Rattle.codec.specs.Reader.{got, Reader, done, parse, parse_bind, ◌>>=◌}
-use Rattle.codec.specs.Words.{field-alone}
-use Rattle.codec.specs.Row.{Cell, cell, size, row_bits, RowFits, RowIs, length_row, join_bits, row_is, rows_append, rows_joined, one_cell}
-use Rattle.codec.specs.RoundTrip.{parse_row_lem}
-use Rattle.codec.specs.WrittenAgain.{Every, every_bind}
-use Rattle.codec.specs.Cases.{flag-back, flag-again}
+use Rattle.codec.specs.Reader.{got, Reader, done, parse, ◌>>=◌}
+use Rattle.codec.proofs.Laws.Reader.{parse_bind}
+use Rattle.codec.proofs.Laws.Words.{field-alone}
+use Rattle.codec.specs.Row.{Cell, cell, size, row_bits, RowFits, RowIs}
+use Rattle.codec.proofs.Laws.Row.{length_row, join_bits, row_is, rows_append, rows_joined, one_cell}
+use Rattle.codec.proofs.Laws.RoundTrip.{parse_row_lem}
+use Rattle.codec.specs.WrittenAgain.{Every}
+use Rattle.codec.proofs.Laws.WrittenAgain.{every_bind}
+use Rattle.codec.proofs.Laws.Cases.{flag-back, flag-again}
 use Rattle.tetra_fields.specs.UplinkAddress.{uplink_width, uplink_number, read_uplink_address, encryption_refusal, uplink_address_refusal, uplink_address_row}
 use Rattle.tetra_fields.specs.UplinkHead.{read_uplink_body, read_uplink_head, uplink_refusal, uplink_body_row, uplink_row, body_size, uplink_size, normal_head}
 use Rattle.tetra_fields.specs.Laws.UplinkAddress.{type_lt, number_fits, address-back, type-again, number-again}

@@ -7,7 +7,7 @@ use mathlib.Core.Option.{some}
 use lib.ListN.{length}
 use Rattle.tetra_core.specs.declared.bitbuffer.Cursor.{Cursor}
 use Rattle.tetra_core.specs.declared.refusal.Refusal.{Refusal}
-use Rattle.codec.specs.Cases.{flag-back}
+use Rattle.codec.proofs.Laws.Cases.{flag-back}
 use Rattle.optional_elements.specs.GrantAndAllocation.{read_grant_and_allocation}
 use Rattle.mac_fragments.specs.TypeAndFill.{read_type_and_fill}
 use Rattle.mac_fragments.specs.MacEnd.{read_behind_fill, read_mac_end, mac_end_at}

@@ -5,7 +5,7 @@ use mathlib.Core.List.{List}
 use mathlib.Core.Option.{some}
 use Rattle.tetra_core.specs.declared.bitbuffer.Cursor.{Cursor}
 use Rattle.tetra_core.specs.declared.refusal.Refusal.{Refusal}
-use Rattle.codec.specs.Cases.{flag-back}
+use Rattle.codec.proofs.Laws.Cases.{flag-back}
 use Rattle.mac_fragments.specs.TypeAndFill.{read_type_and_fill}
 use Rattle.mac_fragments.specs.MacFrag.{read_mac_frag, mac_frag_at}
 use Rattle.mac_fragments.specs.declared.mac_frag.MacFrag.{MacFrag}

@@ -4,7 +4,7 @@ use Rattle.std.proofs.Math.Option.{some}
 use Rattle.std.proofs.Common.{arith, le-leb}
 use Rattle.tetra_core.specs.declared.bitbuffer.Cursor.{Cursor}
 use Rattle.tetra_core.specs.declared.refusal.Refusal.{Refusal}
-use Rattle.codec.specs.Cases.{flag-back}
+use Rattle.codec.proofs.Laws.Cases.{flag-back}
 use Rattle.channel_allocation.specs.ChannelAllocation.{alloc_type_number, ul_dl_number, timeslots_number, frame18_number, read_mon_patterns, read_channel_allocation, channel_allocation_at}
 use Rattle.channel_allocation.specs.Laws.ChannelAllocation.{alloc_type-back, ul_dl_back, timeslots_lt, timeslots_back}
 use Rattle.channel_allocation.specs.declared.channel_allocation.Frame18Pattern.{Frame18Pattern}

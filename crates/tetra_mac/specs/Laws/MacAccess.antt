@@ -4,7 +4,7 @@ use Rattle.std.proofs.Math.Option.{some}
 use Rattle.std.proofs.Common.{arith, lt-ltb}
 use Rattle.tetra_core.specs.declared.bitbuffer.Cursor.{Cursor}
 use Rattle.tetra_core.specs.declared.refusal.Refusal.{Refusal}
-use Rattle.codec.specs.Cases.{flag-back}
+use Rattle.codec.proofs.Laws.Cases.{flag-back}
 use Rattle.tetra_fields.specs.ReservationRequirement.{reservation_number}
 use Rattle.tetra_fields.specs.UplinkAddress.{read_uplink_address}
 use Rattle.tetra_fields.specs.UplinkHead.{read_uplink_body, read_uplink_head}

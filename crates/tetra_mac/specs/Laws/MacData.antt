@@ -5,7 +5,8 @@ use Rattle.std.proofs.Common.{arith}
 use Rattle.tetra_core.specs.Laws.Windows.{and_both}
 use Rattle.tetra_core.specs.declared.bitbuffer.Cursor.{Cursor}
 use Rattle.tetra_core.specs.declared.refusal.Refusal.{Refusal}
-use Rattle.codec.specs.Cases.{flag, flag-back}
+use Rattle.codec.specs.Cases.{flag}
+use Rattle.codec.proofs.Laws.Cases.{flag-back}
 use Rattle.tetra_fields.specs.UplinkAddress.{read_uplink_address}
 use Rattle.tetra_fields.specs.UplinkHead.{read_uplink_body, read_uplink_head}
 use Rattle.mac_data.specs.MacData.{read_request, read_option, read_mac_data, mac_data_at}

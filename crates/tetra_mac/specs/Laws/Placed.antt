@@ -5,8 +5,10 @@ use Rattle.tetra_core.specs.BitBuffer.{good_window, moved}
 use Rattle.tetra_core.specs.Laws.Windows.{good_facts}
 use Rattle.tetra_core.specs.declared.bitbuffer.Cursor.{Cursor}
 use Rattle.tetra_core.specs.declared.refusal.Refusal.{Refusal}
-use Rattle.codec.specs.Reader.{Out, got, refused, Reader, done, refuse, field, here, choose, ◌>>=◌, parse, field-there, field-short}
-use Rattle.codec.specs.Header.{within, at_cursor, answered, length-within}
+use Rattle.codec.specs.Reader.{Out, got, refused, Reader, done, refuse, field, here, choose, ◌>>=◌, parse}
+use Rattle.codec.proofs.Laws.Reader.{field-there, field-short}
+use Rattle.codec.specs.Header.{within, at_cursor, answered}
+use Rattle.codec.proofs.Laws.Header.{length-within}
 
 -- each refusal of a reader at the offset o stands at an offset reached
 abbrev pub Placed : {A : Type 0} → ℕ → Reader A → Type 0

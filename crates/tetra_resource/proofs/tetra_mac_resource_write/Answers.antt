@@ -1,7 +1,7 @@
 use mathlib.Core.Path.{refl, sym, ◌∙◌}
 use Prim.Native.Nat.{◌≤◌}
 use lib.ListN.{length}
-use Rattle.codec.specs.Encoded.{header-writable, header-written}
+use Rattle.codec.proofs.Laws.Encoded.{header-writable, header-written}
 use Rattle.mac_resource.specs.Laws.MacResource.{told}
 use Rattle.tetra_mac.specs.Laws.Reply.{write_no_room, record_unknown, record_replied}
 use Rattle.tetra_resource.specs.MacResource.{mac_resource_value}

@@ -1,4 +1,4 @@
-use Rattle.codec.specs.Row.{row_is}
+use Rattle.codec.proofs.Laws.Row.{row_is}
 use Rattle.access_assign.specs.AccessAssign.{access_assign_row}
 use Rattle.access_assign.specs.Laws.AccessAssign.{access_assign_fits}
 use Rattle.access_assign.proofs.access_assign.access_assign_word.Goals as goal

@@ -1,8 +1,8 @@
 use mathlib.Core.Path.{refl}
 use borrow.Author.Tests.{eq-eqb, ne_eqb}
 use Rattle.tetra_core.specs.Laws.Windows.{good_facts}
-use Rattle.codec.specs.Header.{bad-seen, good-seen, ends}
-use Rattle.codec.specs.Ahead.{next-read}
+use Rattle.codec.proofs.Laws.Header.{bad-seen, good-seen, ends}
+use Rattle.codec.proofs.Laws.Ahead.{next-read}
 use Rattle.access_assign.specs.AccessAssign.{read_access_assign, access_assign_out, access_assign_at}
 use Rattle.access_assign.proofs.access_assign.from_bitbuf.Goals as goal
 

@@ -1,6 +1,6 @@
 use mathlib.Core.List.{[], ◌∷◌}
-use Rattle.codec.specs.Header.{parsed_word}
-use Rattle.codec.specs.Ahead.{ahead_short}
+use Rattle.codec.proofs.Laws.Header.{parsed_word}
+use Rattle.codec.proofs.Laws.Ahead.{ahead_short}
 use Rattle.access_assign.specs.AccessAssign.{read_access_assign}
 use Rattle.access_assign.proofs.access_assign.read_access_assign.Goals as goal
 

@@ -1,4 +1,4 @@
-use Rattle.codec.specs.Encoded.{encoded_written}
+use Rattle.codec.proofs.Laws.Encoded.{encoded_written}
 use Rattle.access_assign.proofs.access_assign.to_bitbuf.Goals as goal
 
 pub returns : goal.returns

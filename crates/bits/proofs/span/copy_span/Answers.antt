@@ -3,9 +3,9 @@ use mathlib.Core.Path.{◌≡◌, refl, sym, ap, ◌∙◌}
 use native.Mathlib.Omega.{arith}
 use borrow.Author.Rules.{rules}
 use Rattle.bits.specs.Bits.{bits_at, put_bits}
-use Rattle.bits.specs.Laws.Reads.{bits_at_zero, get_bits_lt}
-use Rattle.bits.specs.Laws.Writes.{length-put_bits, put_bits-nil}
-use Rattle.bits.specs.Laws.Spans.{copy_turn}
+use Rattle.bits.proofs.Laws.Reads.{bits_at_zero, get_bits_lt}
+use Rattle.bits.proofs.Laws.Writes.{length-put_bits, put_bits-nil}
+use Rattle.bits.proofs.Laws.Spans.{copy_turn}
 use Rattle.bits.proofs.span.copy_span.Goals as goal
 
 pub loop-done-init : goal.loop-done-init

@@ -4,8 +4,8 @@ use native.Mathlib.Omega.{arith}
 use borrow.Author.Rules.{rules}
 use lib.ListN.{replicate}
 use Rattle.bits.specs.Bits.{val, put_bits}
-use Rattle.bits.specs.Laws.Writes.{length-put_bits, put_bits-nil}
-use Rattle.bits.specs.Laws.Spans.{alike, alike_lt, span_turn}
+use Rattle.bits.proofs.Laws.Writes.{length-put_bits, put_bits-nil}
+use Rattle.bits.proofs.Laws.Spans.{alike, alike_lt, span_turn}
 use Rattle.bits.proofs.span.put_span.Goals.{After-min-k}
 use Rattle.bits.proofs.span.put_span.Goals as goal
 

@@ -2,7 +2,7 @@ use Prim.Native.Nat.{◌+◌, ◌-◌, ◌<◌}
 use native.Mathlib.Omega.{arith}
 use lib.Bits.{and_le_l}
 use Rattle.bits.specs.Bits.{patch}
-use Rattle.bits.specs.Laws.Shifts.{masked_is}
+use Rattle.bits.proofs.Laws.Shifts.{masked_is}
 use Rattle.bits.proofs.Words.{patch_lt}
 use Rattle.bits.proofs.word.byte_replaced.Goals.{After-mask-ones}
 use Rattle.bits.proofs.word.byte_replaced.Goals as goal

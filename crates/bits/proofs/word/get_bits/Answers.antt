@@ -2,7 +2,7 @@ use Prim.Native.Nat.{◌+◌, ◌-◌, ◌^◌, ◌<◌}
 use mathlib.Core.Path.{◌≡◌, sym, ◌∙◌}
 use native.Mathlib.Omega.{arith}
 use lib.Pow.{shr_mod}
-use Rattle.bits.specs.Laws.Reads.{get_bits-zero}
+use Rattle.bits.proofs.Laws.Reads.{get_bits-zero}
 use borrow.Author.Rules.{rules}
 use Rattle.bits.proofs.word.get_bits.Goals as goal
 

@@ -2,7 +2,7 @@ use native.Mathlib.Omega.{arith}
 use mathlib.Core.Path.{sym, ◌∙◌}
 use lib.Pow.{shl_exact}
 use Rattle.bits.proofs.Words.{get_bits_byte}
-use Rattle.bits.specs.Laws.Reads.{get_bits_lt}
+use Rattle.bits.proofs.Laws.Reads.{get_bits_lt}
 use Rattle.bits.proofs.word.load1.Goals as goal
 
 pub returns : goal.returns

@@ -3,7 +3,7 @@ use mathlib.Core.Path.{◌≡◌, sym, ap, ◌∙◌}
 use native.Mathlib.Omega.{arith}
 use lib.ListN.{length}
 use Rattle.bits.specs.Bits.{get_bits}
-use Rattle.bits.specs.Laws.Reads.{get_bits-zero}
+use Rattle.bits.proofs.Laws.Reads.{get_bits-zero}
 use Rattle.bits.proofs.Words.{get_bits-next}
 use Rattle.bits.proofs.word.load_all.Goals as goal
 

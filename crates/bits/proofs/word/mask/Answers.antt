@@ -1,5 +1,5 @@
 use native.Mathlib.Omega.{arith}
-use Rattle.bits.specs.Laws.Shifts as nums
+use Rattle.bits.proofs.Laws.Shifts as nums
 use lib.Pow.{pow_pos}
 use Rattle.bits.proofs.word.mask.Goals as goal
 

@@ -1,7 +1,7 @@
 use native.Mathlib.Omega.{arith}
 use mathlib.Core.Path.{sym}
-use Rattle.bits.specs.Laws.Values.{bits-zero}
-use Rattle.bits.specs.Laws.Writes.{put_bits-nil}
+use Rattle.bits.proofs.Laws.Values.{bits-zero}
+use Rattle.bits.proofs.Laws.Writes.{put_bits-nil}
 use Rattle.bits.proofs.word.put_bits.Goals as goal
 
 pub returns-then-n-eq0 : goal.returns-then-n-eq0

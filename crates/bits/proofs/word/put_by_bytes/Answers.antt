@@ -9,8 +9,8 @@ use mathlib.Core.Path.{◌≡◌, refl, sym, ap, ◌∙◌}
 use Prim.Native.Nat.{◌+◌, ◌-◌, ◌/◌, ◌%◌, ◌^◌}
 use Rattle.bits.specs.Bits.{put_bits}
 use Rattle.bits.proofs.Words.{put_bits_step}
-use Rattle.bits.specs.Laws.Values.{bits-zero}
-use Rattle.bits.specs.Laws.Writes.{put_bits-nil}
+use Rattle.bits.proofs.Laws.Values.{bits-zero}
+use Rattle.bits.proofs.Laws.Writes.{put_bits-nil}
 use Rattle.bits.proofs.word.put_by_bytes.Goals as goal
 
 pub loop-done-init : goal.loop-done-init

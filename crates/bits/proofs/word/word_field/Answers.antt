@@ -1,4 +1,4 @@
-use Rattle.bits.specs.Laws.Shifts as nums
+use Rattle.bits.proofs.Laws.Shifts as nums
 use Rattle.bits.proofs.word.word_field.Goals as goal
 
 pub returns : goal.returns

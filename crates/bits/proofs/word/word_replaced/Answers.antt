@@ -1,7 +1,7 @@
 use native.Mathlib.Omega.{arith}
 use mathlib.Core.Path.{◌≡◌}
 use Prim.Native.Nat.{◌-◌, ◌*◌, ◌/◌, ◌%◌, ◌^◌}
-use Rattle.bits.specs.Laws.Shifts as nums
+use Rattle.bits.proofs.Laws.Shifts as nums
 use native.Mathlib.Nat.{mod-lt}
 use lib.Pow.{shl_exact, pow_pos}
 use Prim.Native.Nat.{◌<◌}

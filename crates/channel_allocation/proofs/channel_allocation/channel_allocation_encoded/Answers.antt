@@ -1,6 +1,6 @@
 use mathlib.Core.Path.{refl, sym, ◌∙◌}
 use native.Mathlib.Omega.{arith}
-use Rattle.codec.specs.Encoded.{refused-encodes, piece_encodes}
+use Rattle.codec.proofs.Laws.Encoded.{refused-encodes, piece_encodes}
 use Rattle.channel_allocation.proofs.channel_allocation.channel_allocation_encoded.Goals as goal
 
 pub returns-then-number-ne0 : goal.returns-then-number-ne0

@@ -1,7 +1,8 @@
 use mathlib.Core.Path.{ap, ◌∙◌}
 use mathlib.Core.List.{[], ◌∷◌, ◌++◌, append_assoc}
 use borrow.Author.Tests.{eq-eqb, ne_eqb}
-use Rattle.codec.specs.Row.{cell, row_bits, row_is, rows_append, rows_joined}
+use Rattle.codec.specs.Row.{cell, row_bits}
+use Rattle.codec.proofs.Laws.Row.{row_is, rows_append, rows_joined}
 use Rattle.channel_allocation.specs.ChannelAllocation.{frame18_number, head_row, patterns_row, channel_allocation_bits, channel_allocation_len}
 use Rattle.channel_allocation.specs.Laws.ChannelAllocation.{channel_allocation-told, frame18-fits}
 use Rattle.channel_allocation.proofs.channel_allocation.channel_allocation_word.Goals as goal

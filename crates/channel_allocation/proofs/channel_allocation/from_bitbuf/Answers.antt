@@ -1,8 +1,8 @@
 use mathlib.Core.Path.{refl}
 use borrow.Author.Tests.{eq-eqb, ne_eqb}
 use Rattle.tetra_core.specs.Laws.Windows.{good_facts}
-use Rattle.codec.specs.Header.{bad-seen, good-seen, ends}
-use Rattle.codec.specs.Ahead.{next-read}
+use Rattle.codec.proofs.Laws.Header.{bad-seen, good-seen, ends}
+use Rattle.codec.proofs.Laws.Ahead.{next-read}
 use Rattle.channel_allocation.specs.ChannelAllocation.{read_channel_allocation, channel_allocation_out, channel_allocation_at}
 use Rattle.channel_allocation.proofs.channel_allocation.from_bitbuf.Goals as goal
 

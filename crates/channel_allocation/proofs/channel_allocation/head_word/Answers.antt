@@ -1,4 +1,4 @@
-use Rattle.codec.specs.Row.{row_is}
+use Rattle.codec.proofs.Laws.Row.{row_is}
 use Rattle.channel_allocation.specs.ChannelAllocation.{head_row}
 use Rattle.channel_allocation.specs.Laws.ChannelAllocation.{head_fits}
 use Rattle.channel_allocation.proofs.channel_allocation.head_word.Goals as goal

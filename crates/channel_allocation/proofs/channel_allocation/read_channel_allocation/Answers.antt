@@ -2,9 +2,9 @@ use mathlib.Core.Path.{refl}
 use mathlib.Core.List.{[], ◌∷◌}
 use native.Mathlib.Omega.{arith}
 use borrow.Author.Tests.{eq-eqb, ne_eqb}
-use Rattle.codec.specs.Reader.{parse_bind}
-use Rattle.codec.specs.Header.{parsed_word, read}
-use Rattle.codec.specs.Ahead.{held_on, ready_on, ahead_short, onward, onward_then}
+use Rattle.codec.proofs.Laws.Reader.{parse_bind}
+use Rattle.codec.proofs.Laws.Header.{parsed_word, read}
+use Rattle.codec.proofs.Laws.Ahead.{held_on, ready_on, ahead_short, onward, onward_then}
 use Rattle.channel_allocation.specs.ChannelAllocation.{read_channel_allocation}
 use Rattle.channel_allocation.proofs.channel_allocation.read_channel_allocation.Goals as goal
 

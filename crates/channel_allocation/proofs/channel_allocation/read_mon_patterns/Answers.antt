@@ -1,7 +1,7 @@
 use native.Mathlib.Omega.{arith}
 use borrow.Author.Tests.{eq-eqb, ne_eqb}
-use Rattle.codec.specs.Header.{alone}
-use Rattle.codec.specs.Ahead.{held_on, ready_on, ahead_field-short, onward, onward_then}
+use Rattle.codec.proofs.Laws.Header.{alone}
+use Rattle.codec.proofs.Laws.Ahead.{held_on, ready_on, ahead_field-short, onward, onward_then}
 use Rattle.channel_allocation.specs.ChannelAllocation.{read_mon_patterns}
 use Rattle.channel_allocation.proofs.channel_allocation.read_mon_patterns.Goals as goal
 

@@ -5,9 +5,10 @@ use mathlib.Core.Path.{◌≡◌, refl, sym, ap, ◌∙◌}
 use native.Mathlib.Omega.{arith}
 use lib.ListN.{length}
 use Rattle.bits.specs.Bits.{put_bits}
-use Rattle.bits.specs.Laws.Writes.{length-put_bits}
+use Rattle.bits.proofs.Laws.Writes.{length-put_bits}
 use Rattle.tetra_core.specs.Laws.Windows.{bytes-refused, bytes-done}
-use Rattle.codec.specs.Piece.{piece_bits, pieces_size_lem}
+use Rattle.codec.specs.Piece.{piece_bits}
+use Rattle.codec.proofs.Laws.Piece.{pieces_size_lem}
 use Rattle.codec.specs.Encoded.{front_with, bits_with, PuttableHeader}
 use Rattle.codec.specs.declared.piece.Piece.{Piece}
 use Rattle.codec.specs.declared.encoded.EncodedHeader.{EncodedHeader}

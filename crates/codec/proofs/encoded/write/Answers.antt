@@ -1,9 +1,10 @@
 use mathlib.Core.List.{append-nil}
 use mathlib.Core.Path.{sym, ◌∙◌}
 use native.Mathlib.Omega.{arith}
-use Rattle.bits.specs.Laws.Values.{bits-zero}
-use Rattle.codec.specs.Write.{write_at, written_at, free}
-use Rattle.codec.specs.Piece.{piece_size}
+use Rattle.bits.proofs.Laws.Values.{bits-zero}
+use Rattle.codec.specs.Write.{write_at, written_at}
+use Rattle.codec.proofs.Laws.Write.{free}
+use Rattle.codec.proofs.Laws.Piece.{piece_size}
 use Rattle.codec.proofs.encoded.write.Goals as goal
 
 pub put-requires : goal.put-requires

@@ -1,7 +1,8 @@
 use mathlib.Core.Path.{sym, ◌∙◌}
 use native.Mathlib.Omega.{arith}
-use Rattle.codec.specs.Write.{write_at, written_at, free}
-use Rattle.codec.specs.Encoded.{with_size}
+use Rattle.codec.specs.Write.{write_at, written_at}
+use Rattle.codec.proofs.Laws.Write.{free}
+use Rattle.codec.proofs.Laws.Encoded.{with_size}
 use Rattle.codec.proofs.encoded.write_header.Goals as goal
 
 pub put_header-requires : goal.put_header-requires

@@ -2,10 +2,11 @@ use native.Mathlib.Omega.{arith}
 use mathlib.Core.Path.{◌≡◌, refl, sym, ap, ◌∙◌}
 use mathlib.Core.List.{[], ◌++◌}
 use lib.ListN.{length}
-use Rattle.bits.specs.Laws.Values.{bits-zero}
-use Rattle.bits.specs.Laws.Writes.{length-put_bits, put_bits-nil}
+use Rattle.bits.proofs.Laws.Values.{bits-zero}
+use Rattle.bits.proofs.Laws.Writes.{length-put_bits, put_bits-nil}
 use Rattle.tetra_core.specs.Laws.Windows.{bytes-refused, bytes-done}
-use Rattle.codec.specs.Piece.{piece_bits, Puttable, piece_size}
+use Rattle.codec.specs.Piece.{piece_bits, Puttable}
+use Rattle.codec.proofs.Laws.Piece.{piece_size}
 use Rattle.codec.proofs.Pieces.{put-behind}
 use Rattle.codec.proofs.piece.put.Goals.{Else-number-ne0, Then-n-m-lt1}
 use Rattle.codec.proofs.piece.put.Goals as goal

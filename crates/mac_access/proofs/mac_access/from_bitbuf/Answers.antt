@@ -1,7 +1,8 @@
 use mathlib.Core.Path.{◌≡◌, refl}
 use borrow.Author.Tests.{eq-eqb, ne_eqb}
 use Rattle.tetra_core.specs.Laws.Windows.{good_facts}
-use Rattle.codec.specs.Header.{within, bad-seen, good-seen, ends, read}
+use Rattle.codec.specs.Header.{within}
+use Rattle.codec.proofs.Laws.Header.{bad-seen, good-seen, ends, read}
 use Rattle.codec.specs.Reader.{parse}
 use Rattle.mac_access.specs.MacAccess.{read_mac_access, mac_access_out, mac_access_at}
 use Rattle.mac_access.proofs.mac_access.from_bitbuf.Goals.{After-read_mac_access-part}

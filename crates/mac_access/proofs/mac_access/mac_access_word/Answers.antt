@@ -1,7 +1,7 @@
 use Prim.Native.Nat.{◌*◌}
 use mathlib.Core.Path.{refl}
 use native.Mathlib.Nat.{add-zero}
-use Rattle.codec.specs.Row.{row_is}
+use Rattle.codec.proofs.Laws.Row.{row_is}
 use Rattle.tetra_fields.specs.Laws.UplinkHead.{allowed, uplink_joined}
 use Rattle.mac_access.specs.MacAccess.{head_of, option_row, mac_access_row, mac_access_size, mac_access_refusal}
 use Rattle.mac_access.specs.declared.mac_access.MacAccessOption.TheVariants.{Without, LengthInd, CapacityRequest}

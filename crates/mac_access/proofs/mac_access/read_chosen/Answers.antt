@@ -1,8 +1,8 @@
 use mathlib.Core.List.{[], ◌∷◌}
 use native.Mathlib.Omega.{arith}
 use borrow.Author.Tests.{eq-eqb, ne_eqb}
-use Rattle.codec.specs.Header.{parsed_word, alone}
-use Rattle.codec.specs.Ahead.{held_on, ahead_short, ahead_field-short}
+use Rattle.codec.proofs.Laws.Header.{parsed_word, alone}
+use Rattle.codec.proofs.Laws.Ahead.{held_on, ahead_short, ahead_field-short}
 use Rattle.mac_access.specs.MacAccess.{read_chosen, read_request}
 use Rattle.mac_access.proofs.mac_access.read_chosen.Goals as goal
 

@@ -1,8 +1,8 @@
 use mathlib.Core.Path.{refl}
 use borrow.Author.Tests.{eq-eqb, ne_eqb}
-use Rattle.codec.specs.Reader.{parse_bind}
-use Rattle.codec.specs.Header.{next-part}
-use Rattle.codec.specs.Ahead.{next-read}
+use Rattle.codec.proofs.Laws.Reader.{parse_bind}
+use Rattle.codec.proofs.Laws.Header.{next-part}
+use Rattle.codec.proofs.Laws.Ahead.{next-read}
 use Rattle.tetra_fields.specs.UplinkHead.{uplink_head_out}
 use Rattle.mac_access.specs.MacAccess.{option_out, read_mac_access}
 use Rattle.mac_access.proofs.mac_access.read_mac_access.Goals as goal

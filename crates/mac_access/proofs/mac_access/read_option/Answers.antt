@@ -1,7 +1,7 @@
 use native.Mathlib.Omega.{arith}
 use borrow.Author.Tests.{eq-eqb, ne_eqb}
-use Rattle.codec.specs.Header.{alone}
-use Rattle.codec.specs.Ahead.{held_on, ready_on, ahead_field-short}
+use Rattle.codec.proofs.Laws.Header.{alone}
+use Rattle.codec.proofs.Laws.Ahead.{held_on, ready_on, ahead_field-short}
 use Rattle.mac_access.specs.MacAccess.{read_option}
 use Rattle.mac_access.proofs.mac_access.read_option.Goals as goal
 

@@ -1,4 +1,4 @@
-use Rattle.codec.specs.Encoded.{encoded_written}
+use Rattle.codec.proofs.Laws.Encoded.{encoded_written}
 use Rattle.mac_access.proofs.mac_access.to_bitbuf.Goals as goal
 
 pub returns : goal.returns

@@ -1,6 +1,6 @@
 use mathlib.Core.Path.{sym}
 use native.Mathlib.Omega.{arith}
-use Rattle.block_rules.specs.Laws.Extents.{extent-short}
+use Rattle.block_rules.proofs.Laws.Extents.{extent-short}
 use Rattle.mac_block.proofs.Stepping.{extent-word}
 use Rattle.mac_block.proofs.extent.extent_at.Goals as goal
 

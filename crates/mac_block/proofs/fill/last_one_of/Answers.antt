@@ -3,7 +3,7 @@ use mathlib.Core.Path.{◌≡◌, refl, sym, ap, ◌∙◌}
 use native.Mathlib.Omega.{arith}
 use borrow.Author.Rules.{rules}
 use lib.Count.{trailing_le}
-use Rattle.bits.specs.Laws.Reads.{bits_at_zero}
+use Rattle.bits.proofs.Laws.Reads.{bits_at_zero}
 use Rattle.block_rules.specs.Read.{before_last_one}
 use Rattle.mac_block.specs.LastOne.{last_one}
 use Rattle.mac_block.proofs.LastOnes.{turn_zeros, turn_place, turn_found}

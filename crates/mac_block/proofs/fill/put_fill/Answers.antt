@@ -1,6 +1,6 @@
 use mathlib.Core.Path.{refl}
 use native.Mathlib.Omega.{arith}
-use Rattle.block_rules.specs.Laws.Lists.{length-fill}
+use Rattle.block_rules.proofs.Laws.Lists.{length-fill}
 use Rattle.mac_block.proofs.Puts.{put-behind, fill_is, fill_more}
 use Rattle.mac_block.proofs.fill.put_fill.Goals as goal
 

@@ -2,8 +2,8 @@ use Prim.Native.Nat.{◌-◌}
 use mathlib.Core.Path.{refl, sym}
 use native.Mathlib.Omega.{arith}
 use lib.Pow.{pow-lt, shl_exact}
-use Rattle.bits.specs.Laws.Shifts.{one_shl}
-use Rattle.bits.specs.Laws.Writes.{put_bits-nil}
+use Rattle.bits.proofs.Laws.Shifts.{one_shl}
+use Rattle.bits.proofs.Laws.Writes.{put_bits-nil}
 use Rattle.block_rules.specs.Writer.{fill_bits}
 use Rattle.mac_block.proofs.Puts.{fill_is}
 use Rattle.mac_block.proofs.fill.put_short_fill.Goals as goal

@@ -4,10 +4,10 @@ use native.Mathlib.Omega.{arith}
 use borrow.Author.Tests.{not-true, not-false}
 use lib.ListN.{drop}
 use Rattle.bits.specs.Bits.{bits_at}
-use Rattle.bits.specs.Laws.Reads.{length_bits_at}
+use Rattle.bits.proofs.Laws.Reads.{length_bits_at}
 use Rattle.block_rules.specs.Read.{before_last_one}
 use Rattle.mac_block.specs.LastOne.{last_one}
-use Rattle.block_rules.specs.Laws.Blocks.{behind-part}
+use Rattle.block_rules.proofs.Laws.Blocks.{behind-part}
 use Rattle.mac_block.proofs.Stepping.{unfilled, filled, no_fill}
 use Rattle.mac_block.proofs.reader.behind_header.Goals.{After-last_one_of}
 use Rattle.mac_block.proofs.reader.behind_header.Goals as goal

@@ -3,7 +3,7 @@ use native.Mathlib.Omega.{arith}
 use borrow.Author.Rules.{rules}
 use borrow.Author.Tests.{eq-eqb, ne_eqb}
 use Rattle.bits.specs.Bits.{bits_at}
-use Rattle.bits.specs.Laws.Reads.{length_bits_at}
+use Rattle.bits.proofs.Laws.Reads.{length_bits_at}
 use Rattle.codec.specs.Reader.{parse}
 use Rattle.mac_resource.specs.MacResource.{read_mac_resource, mac_resource_out}
 use Rattle.mac_block.specs.Answers.{sized_entry}

@@ -6,14 +6,15 @@ use borrow.Author.Rules.{rules}
 use Rattle.bits.specs.Bits.{bits_at}
 use Rattle.codec.specs.Header.{within}
 use Rattle.codec.specs.declared.Ahead.{Ahead}
-use Rattle.codec.specs.Ahead.{Held, ready_less, ready-cut}
+use Rattle.codec.specs.Ahead.{Held}
+use Rattle.codec.proofs.Laws.Ahead.{ready_less, ready-cut}
 use Rattle.block_rules.specs.Numbers.{least_bits}
 use Rattle.block_rules.specs.Extent.{extent}
 use Rattle.block_rules.specs.Walk.{step_of, pdu_of, step}
 use Rattle.block_rules.specs.Downlink.{downlink_reader}
 use Rattle.mac_block.specs.Answers.{entry_of, step_answer}
 use Rattle.block_rules.specs.Demand3.{IsBlock}
-use Rattle.block_rules.specs.Laws.Blocks.{held, step_there}
+use Rattle.block_rules.proofs.Laws.Blocks.{held, step_there}
 use Rattle.mac_block.proofs.Stepping.{step_bad, step_past, left_there, own_there, size-there, pdu-there}
 use Rattle.mac_block.proofs.reader.step.Goals.{After-extent_at, Else-not-good_block}
 use Rattle.mac_block.proofs.reader.step.Goals as goal

@@ -1,6 +1,6 @@
-use Rattle.codec.specs.Encoded.{settable}
+use Rattle.codec.proofs.Laws.Encoded.{settable}
 use Rattle.block_rules.specs.Downlink.{downlink_writer}
-use Rattle.block_rules.specs.Laws.Downlink.{length<64}
+use Rattle.block_rules.proofs.Laws.Downlink.{length<64}
 use Rattle.mac_block.specs.Laws.Added.{header-added}
 use Rattle.mac_block.proofs.writer.add.Goals as goal
 

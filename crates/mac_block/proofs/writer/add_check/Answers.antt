@@ -1,7 +1,7 @@
 use mathlib.Core.Bool.{false}
 use mathlib.Core.Path.{◌≡◌, ◌∙◌}
 use native.Mathlib.Omega.{arith}
-use Rattle.codec.specs.Encoded.{settable}
+use Rattle.codec.proofs.Laws.Encoded.{settable}
 use Rattle.mac_resource.specs.MacResource.{header_len}
 use Rattle.block_rules.specs.Writer.{add_check}
 use Rattle.mac_block.proofs.writer.add_check.Goals as goal

@@ -3,7 +3,7 @@ use mathlib.Core.Path.{◌≡◌, sym, ◌∙◌}
 use native.Mathlib.Omega.{arith}
 use borrow.Author.Tests.{le-leb, lt-leb}
 use Rattle.block_rules.specs.Writer.{finish_refusal, check_of}
-use Rattle.block_rules.specs.Laws.Refusals.{placed, finish_tests, check-none}
+use Rattle.block_rules.proofs.Laws.Refusals.{placed, finish_tests, check-none}
 use Rattle.mac_block.proofs.AddRefusals.{not_there, not_given, not_fine, by_room}
 use Rattle.mac_block.proofs.writer.add_refusal.Goals.{Else-number-ne0, Else-number-ne0-2}
 use Rattle.mac_block.proofs.writer.add_refusal.Goals as goal

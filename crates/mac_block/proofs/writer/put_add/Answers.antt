@@ -8,9 +8,9 @@ use Rattle.block_rules.specs.Ending.{pdu_size}
 use Rattle.block_rules.specs.Writer.{writer_at, refusal_of, added_of}
 use Rattle.block_rules.specs.Downlink.{ending_of}
 use Rattle.mac_block.specs.Added.{encoded_to}
-use Rattle.block_rules.specs.Laws.Refusals.{Roomy, roomy}
-use Rattle.block_rules.specs.Laws.WrittenBack.{size-bounds}
-use Rattle.block_rules.specs.Laws.Calls.{after-zero, after-refused}
+use Rattle.block_rules.proofs.Laws.Refusals.{Roomy, roomy}
+use Rattle.block_rules.proofs.Laws.WrittenBack.{size-bounds}
+use Rattle.block_rules.proofs.Laws.Calls.{after-zero, after-refused}
 use Rattle.mac_block.proofs.writer.put_add.Goals.{After-pdu_size-size, Else-number-ne0}
 use Rattle.mac_block.proofs.writer.put_add.Goals as goal
 

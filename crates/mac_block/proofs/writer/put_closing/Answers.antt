@@ -4,7 +4,7 @@ use native.Mathlib.Omega.{arith}
 use borrow.Author.Tests.{lt-ltb}
 use lib.Pow.{shr_lt}
 use Rattle.block_rules.specs.Writer.{finish_bits}
-use Rattle.block_rules.specs.Laws.WrittenBack.{length-finish}
+use Rattle.block_rules.proofs.Laws.WrittenBack.{length-finish}
 use Rattle.mac_block.proofs.Puts.{put-behind, closing-is, finish_more}
 use Rattle.mac_block.proofs.writer.put_closing.Goals as goal
 

@@ -3,9 +3,9 @@ use mathlib.Core.Path.{refl, sym, ◌∙◌}
 use native.Mathlib.Omega.{arith}
 use Rattle.block_rules.specs.Writer.{finish_bits, writer_at, finished, finish_to}
 use Rattle.block_rules.specs.Demand3.{IsBlock}
-use Rattle.block_rules.specs.Laws.Refusals.{Placed, finish-free, finish_accepted}
-use Rattle.block_rules.specs.Laws.Calls.{after-refused}
-use Rattle.block_rules.specs.Laws.WrittenBack.{length-finish}
+use Rattle.block_rules.proofs.Laws.Refusals.{Placed, finish-free, finish_accepted}
+use Rattle.block_rules.proofs.Laws.Calls.{after-refused}
+use Rattle.block_rules.proofs.Laws.WrittenBack.{length-finish}
 use Rattle.mac_block.proofs.Puts.{length_part, put-part}
 use Rattle.mac_block.proofs.writer.put_finish.Goals.{Else-number-ne0}
 use Rattle.mac_block.proofs.writer.put_finish.Goals as goal

@@ -6,10 +6,11 @@ use borrow.Rule.Slice.PartMut.{put_mid}
 use lib.Dec.{eqb}
 use lib.ListN.{length}
 use Rattle.bits.specs.Bits.{put_bits}
-use Rattle.bits.specs.Laws.Reads.{length_bits_at}
-use Rattle.codec.specs.Encoded.{size_of, bits_with, with_size}
+use Rattle.bits.proofs.Laws.Reads.{length_bits_at}
+use Rattle.codec.specs.Encoded.{size_of, bits_with}
+use Rattle.codec.proofs.Laws.Encoded.{with_size}
 use Rattle.block_rules.specs.Writer.{flag_of, fill_bits}
-use Rattle.block_rules.specs.Laws.Lists.{length-fill}
+use Rattle.block_rules.proofs.Laws.Lists.{length-fill}
 use Rattle.mac_block.proofs.Puts.{flag_is, length_part, put-part, put_three}
 use Rattle.mac_block.proofs.writer.put_pdu.Goals.{After-block-1}
 use Rattle.mac_block.proofs.writer.put_pdu.Goals as goal

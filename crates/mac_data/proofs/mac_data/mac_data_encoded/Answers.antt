@@ -1,7 +1,7 @@
 use mathlib.Core.Path.{sym, ◌∙◌}
 use native.Mathlib.Omega.{arith}
-use Rattle.codec.specs.Piece.{row_holds}
-use Rattle.codec.specs.Encoded.{refused-encodes, piece_encodes}
+use Rattle.codec.proofs.Laws.Piece.{row_holds}
+use Rattle.codec.proofs.Laws.Encoded.{refused-encodes, piece_encodes}
 use Rattle.mac_data.proofs.mac_data.mac_data_encoded.Goals as goal
 
 pub returns-then-number-ne0 : goal.returns-then-number-ne0

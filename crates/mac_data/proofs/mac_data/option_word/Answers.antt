@@ -1,5 +1,5 @@
 use mathlib.Core.Path.{refl}
-use Rattle.codec.specs.Row.{row_is}
+use Rattle.codec.proofs.Laws.Row.{row_is}
 use Rattle.mac_data.specs.MacData.{option_row}
 use Rattle.mac_data.specs.declared.mac_data.MacDataOption.TheVariants.{LengthInd, CapacityRequest}
 use Rattle.mac_data.specs.Laws.MacData.{option_fits}

@@ -1,8 +1,8 @@
 use mathlib.Core.List.{[], ◌∷◌}
 use native.Mathlib.Omega.{arith}
 use borrow.Author.Tests.{eq-eqb, ne_eqb}
-use Rattle.codec.specs.Header.{parsed_word, alone}
-use Rattle.codec.specs.Ahead.{held_on, ahead_short, ahead_field-short}
+use Rattle.codec.proofs.Laws.Header.{parsed_word, alone}
+use Rattle.codec.proofs.Laws.Ahead.{held_on, ahead_short, ahead_field-short}
 use Rattle.mac_data.specs.MacData.{read_option, read_request}
 use Rattle.mac_data.proofs.mac_data.read_option.Goals as goal
 

@@ -1,6 +1,6 @@
 use native.Mathlib.Omega.{arith}
 use borrow.Author.Rules.{rules}
-use Rattle.codec.specs.Encoded.{refused-encodes, piece_encodes}
+use Rattle.codec.proofs.Laws.Encoded.{refused-encodes, piece_encodes}
 use Rattle.optional_elements.specs.Laws.GrantAndAllocation.{grant_and_allocation-bounds}
 use Rattle.mac_fragments.proofs.mac_end.elements_encoded.Statement.{statement}
 use Rattle.mac_fragments.proofs.mac_end.elements_encoded.Tie as tie

@@ -2,7 +2,8 @@ use mathlib.Core.Path.{◌≡◌, refl}
 use borrow.Author.Rules.{rules}
 use borrow.Author.Tests.{eq-eqb, ne_eqb}
 use Rattle.tetra_core.specs.Laws.Windows.{good_facts}
-use Rattle.codec.specs.Header.{within, bad-seen, good-seen, ends, read}
+use Rattle.codec.specs.Header.{within}
+use Rattle.codec.proofs.Laws.Header.{bad-seen, good-seen, ends, read}
 use Rattle.codec.specs.Reader.{parse}
 use Rattle.mac_fragments.specs.MacEnd.{read_mac_end, mac_end_out, mac_end_at}
 use Rattle.mac_fragments.proofs.mac_end.from_bitbuf.Statement.{statement}

@@ -3,9 +3,10 @@ use mathlib.Core.List.{[], ◌∷◌}
 use native.Mathlib.Omega.{arith}
 use borrow.Author.Rules.{rules}
 use Rattle.tetra_core.specs.Refusal.{first, first-none}
-use Rattle.codec.specs.Piece.{row_holds}
-use Rattle.codec.specs.Width.{too_wide, fits-field}
-use Rattle.codec.specs.Encoded.{refused-encodes, piece_encodes}
+use Rattle.codec.proofs.Laws.Piece.{row_holds}
+use Rattle.codec.specs.Width.{too_wide}
+use Rattle.codec.proofs.Laws.Width.{fits-field}
+use Rattle.codec.proofs.Laws.Encoded.{refused-encodes, piece_encodes}
 use Rattle.mac_fragments.proofs.mac_end.front_encoded.Statement.{statement}
 use Rattle.mac_fragments.proofs.mac_end.front_encoded.Tie as tie
 

@@ -1,7 +1,8 @@
 use borrow.Author.Rules.{rules}
 use lib.Dec.{lit<}
 use mathlib.Core.List.{[], ◌∷◌}
-use Rattle.codec.specs.Row.{cell, row_is, rows_joined}
+use Rattle.codec.specs.Row.{cell}
+use Rattle.codec.proofs.Laws.Row.{row_is, rows_joined}
 use Rattle.mac_fragments.proofs.mac_end.front_word.Statement.{statement}
 use Rattle.mac_fragments.proofs.mac_end.front_word.Tie as tie
 

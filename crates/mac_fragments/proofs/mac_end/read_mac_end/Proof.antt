@@ -4,9 +4,10 @@ use mathlib.Core.List.{[], ◌∷◌}
 use native.Mathlib.Omega.{arith}
 use borrow.Author.Rules.{rules}
 use borrow.Author.Tests.{eq-eqb, ne_eqb}
-use Rattle.codec.specs.Header.{read, next-part, parsed_word}
-use Rattle.codec.specs.Reader.{parse_bind}
-use Rattle.codec.specs.Ahead.{Onward, Ready, ready_less, ready_on, held_on, ahead_short}
+use Rattle.codec.proofs.Laws.Header.{read, next-part, parsed_word}
+use Rattle.codec.proofs.Laws.Reader.{parse_bind}
+use Rattle.codec.specs.Ahead.{Onward, Ready}
+use Rattle.codec.proofs.Laws.Ahead.{ready_less, ready_on, held_on, ahead_short}
 use Rattle.optional_elements.specs.GrantAndAllocation.{grant_and_allocation_most}
 use Rattle.mac_fragments.specs.TypeAndFill.{type_and_fill_len}
 use Rattle.mac_fragments.specs.MacEnd.{read_mac_end, read_behind_fill, header_most}

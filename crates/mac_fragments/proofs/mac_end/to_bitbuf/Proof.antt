@@ -1,5 +1,5 @@
 use borrow.Author.Rules.{rules}
-use Rattle.codec.specs.Encoded.{header-writable, header-written}
+use Rattle.codec.proofs.Laws.Encoded.{header-writable, header-written}
 use Rattle.mac_fragments.specs.MacEnd.{mac_end_refusal, EncodesEnd}
 use Rattle.mac_fragments.specs.Laws.MacEnd.{told}
 use Rattle.mac_fragments.proofs.mac_end.to_bitbuf.Statement.{statement}

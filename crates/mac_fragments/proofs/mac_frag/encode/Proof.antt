@@ -1,8 +1,8 @@
 use native.Mathlib.Omega.{arith}
 use mathlib.Core.Path.{refl}
 use borrow.Author.Rules.{rules}
-use Rattle.codec.specs.Piece.{row_holds}
-use Rattle.codec.specs.Encoded.{piece_encodes}
+use Rattle.codec.proofs.Laws.Piece.{row_holds}
+use Rattle.codec.proofs.Laws.Encoded.{piece_encodes}
 use Rattle.mac_fragments.specs.MacFrag.{mac_frag_bits}
 use Rattle.mac_fragments.specs.Laws.Encoded.{mac_frag_encodes}
 use Rattle.mac_fragments.proofs.mac_frag.encode.Statement.{statement}

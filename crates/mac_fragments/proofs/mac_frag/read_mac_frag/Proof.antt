@@ -1,7 +1,7 @@
 use mathlib.Core.Path.{refl}
 use borrow.Author.Rules.{rules}
-use Rattle.codec.specs.Header.{read, next-part}
-use Rattle.codec.specs.Reader.{parse_bind}
+use Rattle.codec.proofs.Laws.Header.{read, next-part}
+use Rattle.codec.proofs.Laws.Reader.{parse_bind}
 use Rattle.mac_fragments.specs.MacFrag.{read_mac_frag}
 use Rattle.mac_fragments.proofs.mac_frag.read_mac_frag.Statement.{statement}
 use Rattle.mac_fragments.proofs.mac_frag.read_mac_frag.Tie as tie

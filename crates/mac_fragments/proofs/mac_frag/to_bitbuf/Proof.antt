@@ -1,6 +1,6 @@
 use native.Mathlib.Omega.{arith}
 use borrow.Author.Rules.{rules}
-use Rattle.codec.specs.Encoded.{header-writable, header-written}
+use Rattle.codec.proofs.Laws.Encoded.{header-writable, header-written}
 use Rattle.mac_fragments.proofs.mac_frag.to_bitbuf.Statement.{statement}
 use Rattle.mac_fragments.proofs.mac_frag.to_bitbuf.Tie as tie
 

@@ -4,8 +4,10 @@ use mathlib.Core.Bool.{Bool}
 use native.Mathlib.Omega.{arith}
 use borrow.Author.Rules.{rules}
 use borrow.Author.Tests.{eq-eqb, ne_eqb}
-use Rattle.codec.specs.Header.{Word, alone}
-use Rattle.codec.specs.Ahead.{Held, held_on, ready_on, ahead_field-short}
+use Rattle.codec.specs.Header.{Word}
+use Rattle.codec.proofs.Laws.Header.{alone}
+use Rattle.codec.specs.Ahead.{Held}
+use Rattle.codec.proofs.Laws.Ahead.{held_on, ready_on, ahead_field-short}
 use Rattle.mac_fragments.specs.TypeAndFill.{read_type_and_fill, read_behind_type}
 use Rattle.mac_fragments.proofs.type_and_fill.cut_off.Statement.{statement}
 use Rattle.mac_fragments.proofs.type_and_fill.cut_off.Tie as tie

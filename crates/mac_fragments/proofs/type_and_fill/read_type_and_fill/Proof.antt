@@ -1,8 +1,8 @@
 use native.Mathlib.Omega.{arith}
 use borrow.Author.Rules.{rules}
 use borrow.Author.Tests.{eq-eqb, ne_eqb}
-use Rattle.codec.specs.Header.{parsed_word}
-use Rattle.codec.specs.Ahead.{onward}
+use Rattle.codec.proofs.Laws.Header.{parsed_word}
+use Rattle.codec.proofs.Laws.Ahead.{onward}
 use Rattle.mac_fragments.specs.TypeAndFill.{type_and_fill_len, read_type_and_fill, read_behind_type}
 use Rattle.mac_fragments.proofs.type_and_fill.read_type_and_fill.Statement.{statement}
 use Rattle.mac_fragments.proofs.type_and_fill.read_type_and_fill.Tie as tie

@@ -1,6 +1,6 @@
 use borrow.Author.Rules.{rules}
 use mathlib.Core.Bool.{false}
-use Rattle.codec.specs.Row.{row_is}
+use Rattle.codec.proofs.Laws.Row.{row_is}
 use Rattle.mac_fragments.specs.TypeAndFill.{type_and_fill_row}
 use Rattle.mac_fragments.specs.Laws.TypeAndFill.{type_and_fill-fits}
 use Rattle.mac_fragments.proofs.type_and_fill.type_and_fill_word.Statement.{statement}

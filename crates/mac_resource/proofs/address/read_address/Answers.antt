@@ -1,6 +1,6 @@
 use mathlib.Core.Path.{◌∙◌, sym}
 use native.Mathlib.Omega.{arith}
-use Rattle.codec.specs.Ahead.{ready_less, onward, onward-none}
+use Rattle.codec.proofs.Laws.Ahead.{ready_less, onward, onward-none}
 use Rattle.mac_resource.specs.Address.{address_most, read_address}
 use Rattle.mac_resource.proofs.Words.{address-none, address_parsed, address-short}
 use Rattle.mac_resource.proofs.address.read_address.Goals as goal

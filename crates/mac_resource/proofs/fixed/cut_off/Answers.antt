@@ -1,8 +1,8 @@
 use mathlib.Core.List.{[], ◌∷◌}
 use native.Mathlib.Omega.{arith}
 use borrow.Author.Tests.{eq-eqb, ne_eqb}
-use Rattle.codec.specs.Header.{alone}
-use Rattle.codec.specs.Ahead.{held_on, ahead_short, ahead_field-short}
+use Rattle.codec.proofs.Laws.Header.{alone}
+use Rattle.codec.proofs.Laws.Ahead.{held_on, ahead_short, ahead_field-short}
 use Rattle.mac_resource.specs.Fixed.{read_fixed, read_behind_type}
 use Rattle.mac_resource.proofs.fixed.cut_off.Goals as goal
 

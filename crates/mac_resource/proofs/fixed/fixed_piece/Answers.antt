@@ -1,5 +1,5 @@
 use Rattle.mac_resource.specs.Laws.Fixed.{fixed-is}
-use Rattle.codec.specs.Piece.{row_holds}
+use Rattle.codec.proofs.Laws.Piece.{row_holds}
 use Rattle.mac_resource.proofs.fixed.fixed_piece.Goals as goal
 
 pub returns : goal.returns

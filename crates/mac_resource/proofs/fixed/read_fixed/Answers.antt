@@ -1,7 +1,7 @@
 use native.Mathlib.Omega.{arith}
 use borrow.Author.Tests.{eq-eqb, ne_eqb}
-use Rattle.codec.specs.Header.{parsed_word}
-use Rattle.codec.specs.Ahead.{onward}
+use Rattle.codec.proofs.Laws.Header.{parsed_word}
+use Rattle.codec.proofs.Laws.Ahead.{onward}
 use Rattle.mac_resource.specs.Fixed.{fixed_len, read_fixed, read_behind_type}
 use Rattle.mac_resource.proofs.fixed.read_fixed.Goals as goal
 

@@ -1,7 +1,8 @@
 use mathlib.Core.Path.{◌≡◌, refl}
 use borrow.Author.Tests.{eq-eqb, ne_eqb}
 use Rattle.tetra_core.specs.Laws.Windows.{good_facts}
-use Rattle.codec.specs.Header.{within, bad-seen, good-seen, ends, read}
+use Rattle.codec.specs.Header.{within}
+use Rattle.codec.proofs.Laws.Header.{bad-seen, good-seen, ends, read}
 use Rattle.codec.specs.Reader.{parse}
 use Rattle.mac_resource.specs.MacResource.{read_mac_resource, mac_resource_out, mac_resource_at}
 use Rattle.mac_resource.proofs.mac_resource.from_bitbuf.Goals.{After-read_mac_resource-part}

@@ -1,8 +1,8 @@
 use mathlib.Core.Path.{◌≡◌, sym, ◌∙◌}
 use native.Mathlib.Omega.{arith}
-use Rattle.codec.specs.Row.{row_is}
-use Rattle.codec.specs.Piece.{row_holds}
-use Rattle.codec.specs.Encoded.{refused-encodes, piece_encodes}
+use Rattle.codec.proofs.Laws.Row.{row_is}
+use Rattle.codec.proofs.Laws.Piece.{row_holds}
+use Rattle.codec.proofs.Laws.Encoded.{refused-encodes, piece_encodes}
 use Rattle.mac_resource.specs.Address.{type_of, address_refusal, address_row}
 use Rattle.mac_resource.specs.MacResource.{front_refusal}
 use Rattle.mac_resource.specs.Laws.Address.{address-size, address-fits, address_most_lem}

@@ -2,7 +2,7 @@ use native.Mathlib.Omega.{arith}
 use Rattle.mac_resource.specs.Laws.Address.{address_most_lem}
 use Rattle.mac_resource.specs.Address.{type_of}
 use Rattle.mac_resource.specs.MacResource.{front_bits}
-use Rattle.codec.specs.Piece.{join_holds}
+use Rattle.codec.proofs.Laws.Piece.{join_holds}
 use Rattle.mac_resource.proofs.mac_resource.front_piece.Goals as goal
 
 pub joined-requires : goal.joined-requires

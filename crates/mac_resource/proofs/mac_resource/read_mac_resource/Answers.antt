@@ -2,9 +2,10 @@ use Prim.Native.Nat.{◌+◌}
 use mathlib.Core.Path.{refl, sym, ◌∙◌}
 use native.Mathlib.Omega.{arith}
 use borrow.Author.Tests.{eq-eqb, ne_eqb}
-use Rattle.codec.specs.Header.{read, next-part}
-use Rattle.codec.specs.Reader.{parse_bind}
-use Rattle.codec.specs.Ahead.{Onward, ready_less, onward_then}
+use Rattle.codec.proofs.Laws.Header.{read, next-part}
+use Rattle.codec.proofs.Laws.Reader.{parse_bind}
+use Rattle.codec.specs.Ahead.{Onward}
+use Rattle.codec.proofs.Laws.Ahead.{ready_less, onward_then}
 use Rattle.optional_elements.specs.Elements.{flags_len}
 use Rattle.mac_resource.specs.Fixed.{fixed_len}
 use Rattle.mac_resource.specs.Address.{address_most}

@@ -1,4 +1,4 @@
-use Rattle.codec.specs.Encoded.{header-writable, header-written}
+use Rattle.codec.proofs.Laws.Encoded.{header-writable, header-written}
 use Rattle.mac_resource.specs.MacResource.{mac_resource_refusal, EncodesResource}
 use Rattle.mac_resource.specs.Laws.MacResource.{told}
 use Rattle.mac_resource.specs.Laws.Encoded.{alone-encodes}

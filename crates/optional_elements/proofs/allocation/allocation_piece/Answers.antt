@@ -1,8 +1,9 @@
 use mathlib.Core.List.{[], ◌∷◌, append-nil}
 use native.Mathlib.Omega.{arith}
 use lib.Dec.{lit<}
-use Rattle.codec.specs.Row.{cell, row_is}
-use Rattle.codec.specs.Piece.{row_holds, join_holds}
+use Rattle.codec.specs.Row.{cell}
+use Rattle.codec.proofs.Laws.Row.{row_is}
+use Rattle.codec.proofs.Laws.Piece.{row_holds, join_holds}
 use Rattle.optional_elements.proofs.allocation.allocation_piece.Goals as goal
 
 pub channel_allocation_word-requires : goal.channel_allocation_word-requires

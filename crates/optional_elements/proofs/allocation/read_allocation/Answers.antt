@@ -1,8 +1,8 @@
 use mathlib.Core.Path.{refl}
 use native.Mathlib.Omega.{arith}
-use Rattle.codec.specs.Header.{read, next-part}
-use Rattle.codec.specs.Reader.{parse_bind}
-use Rattle.codec.specs.Ahead.{held_on, ready_on, onward, onward_then}
+use Rattle.codec.proofs.Laws.Header.{read, next-part}
+use Rattle.codec.proofs.Laws.Reader.{parse_bind}
+use Rattle.codec.proofs.Laws.Ahead.{held_on, ready_on, onward, onward_then}
 use Rattle.optional_elements.specs.Allocation.{allocation_most, allocation_element, read_allocation}
 use Rattle.optional_elements.specs.Laws.Optional.{optional-short, optional_clear, optional-set}
 use Rattle.optional_elements.specs.declared.allocation.OptionalAllocation.{OptionalAllocation}

@@ -1,6 +1,6 @@
 use mathlib.Core.Path.{sym, ◌∙◌}
 use native.Mathlib.Omega.{arith}
-use Rattle.codec.specs.Encoded.{refused-encodes, piece_encodes}
+use Rattle.codec.proofs.Laws.Encoded.{refused-encodes, piece_encodes}
 use Rattle.optional_elements.specs.Laws.Elements.{elements-bounds, bare_encodes}
 use Rattle.optional_elements.proofs.elements.elements_encoded.Goals as goal
 

@@ -3,7 +3,7 @@ use Rattle.optional_elements.specs.Elements.{elements_bits}
 use Rattle.optional_elements.specs.Laws.PowerControl.{power-bounds}
 use Rattle.optional_elements.specs.Laws.GrantAndAllocation.{grant_and_allocation-bounds}
 use Rattle.optional_elements.specs.Laws.Elements.{elements-told}
-use Rattle.codec.specs.Piece.{join_holds}
+use Rattle.codec.proofs.Laws.Piece.{join_holds}
 use Rattle.optional_elements.proofs.elements.elements_piece.Goals as goal
 
 pub joined-requires : goal.joined-requires

@@ -1,8 +1,9 @@
 use Prim.Native.Nat.{◌≤◌}
 use mathlib.Core.Path.{refl, sym, ◌∙◌}
 use native.Mathlib.Omega.{arith}
-use Rattle.codec.specs.Header.{Word, within, parsed_word}
-use Rattle.codec.specs.Ahead.{ready_less, next-read}
+use Rattle.codec.specs.Header.{Word, within}
+use Rattle.codec.proofs.Laws.Header.{parsed_word}
+use Rattle.codec.proofs.Laws.Ahead.{ready_less, next-read}
 use Rattle.optional_elements.specs.Optional.{optional}
 use Rattle.optional_elements.specs.PowerControl.{read_power}
 use Rattle.optional_elements.specs.SlotGranting.{read_granting}

@@ -3,7 +3,7 @@ use Rattle.optional_elements.specs.GrantAndAllocation.{grant_and_allocation_bits
 use Rattle.optional_elements.specs.Laws.SlotGranting.{granting-bounds}
 use Rattle.optional_elements.specs.Laws.Allocation.{allocation-bounds}
 use Rattle.optional_elements.specs.Laws.GrantAndAllocation.{grant_and_allocation-told}
-use Rattle.codec.specs.Piece.{join_holds}
+use Rattle.codec.proofs.Laws.Piece.{join_holds}
 use Rattle.optional_elements.proofs.grant_and_allocation.grant_and_allocation_piece.Goals as goal
 
 pub joined-requires : goal.joined-requires

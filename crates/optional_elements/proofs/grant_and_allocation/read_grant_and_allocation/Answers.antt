@@ -1,9 +1,9 @@
 use mathlib.Core.Path.{refl}
 use native.Mathlib.Omega.{arith}
 use borrow.Author.Tests.{eq-eqb, ne_eqb}
-use Rattle.codec.specs.Header.{read, next-part}
-use Rattle.codec.specs.Reader.{parse_bind}
-use Rattle.codec.specs.Ahead.{ready_less, onward_then}
+use Rattle.codec.proofs.Laws.Header.{read, next-part}
+use Rattle.codec.proofs.Laws.Reader.{parse_bind}
+use Rattle.codec.proofs.Laws.Ahead.{ready_less, onward_then}
 use Rattle.optional_elements.specs.SlotGranting.{granting_most}
 use Rattle.optional_elements.specs.Allocation.{allocation_most}
 use Rattle.optional_elements.specs.GrantAndAllocation.{grant_and_allocation_most, read_grant_and_allocation}

@@ -1,8 +1,9 @@
 use mathlib.Core.List.{[], ◌∷◌}
 use lib.Dec.{lit<}
-use Rattle.codec.specs.Row.{cell, row_is}
-use Rattle.codec.specs.Piece.{row_holds}
-use Rattle.codec.specs.Width.{fits-field}
+use Rattle.codec.specs.Row.{cell}
+use Rattle.codec.proofs.Laws.Row.{row_is}
+use Rattle.codec.proofs.Laws.Piece.{row_holds}
+use Rattle.codec.proofs.Laws.Width.{fits-field}
 use Rattle.optional_elements.proofs.power_control.power_piece.Goals as goal
 
 pub returns-in-Without : goal.returns-in-Without

@@ -1,6 +1,6 @@
 use native.Mathlib.Omega.{arith}
-use Rattle.codec.specs.Header.{alone}
-use Rattle.codec.specs.Ahead.{held_on, ready_on, ahead_field-short, onward, onward_then}
+use Rattle.codec.proofs.Laws.Header.{alone}
+use Rattle.codec.proofs.Laws.Ahead.{held_on, ready_on, ahead_field-short, onward, onward_then}
 use Rattle.optional_elements.specs.PowerControl.{power_element, read_power}
 use Rattle.optional_elements.specs.Laws.Optional.{optional-short, optional_clear, optional-set}
 use Rattle.optional_elements.specs.declared.power_control.OptionalPower.{OptionalPower}

@@ -1,7 +1,8 @@
 use mathlib.Core.List.{[], ◌∷◌}
 use lib.Dec.{lit<}
-use Rattle.codec.specs.Row.{cell, row_is}
-use Rattle.codec.specs.Piece.{row_holds, flagged-holds}
+use Rattle.codec.specs.Row.{cell}
+use Rattle.codec.proofs.Laws.Row.{row_is}
+use Rattle.codec.proofs.Laws.Piece.{row_holds, flagged-holds}
 use Rattle.optional_elements.proofs.slot_granting.granting_piece.Goals as goal
 
 pub slotgrant_word-requires : goal.slotgrant_word-requires

@@ -2,9 +2,9 @@ use Prim.Native.Nat.{◌≤◌}
 use mathlib.Core.Path.{refl}
 use native.Mathlib.Omega.{arith}
 use borrow.Author.Tests.{eq-eqb, ne_eqb}
-use Rattle.codec.specs.Header.{read}
-use Rattle.codec.specs.Reader.{parse_bind}
-use Rattle.codec.specs.Ahead.{held_on, ready_on, onward, onward_then, read-there}
+use Rattle.codec.proofs.Laws.Header.{read}
+use Rattle.codec.proofs.Laws.Reader.{parse_bind}
+use Rattle.codec.proofs.Laws.Ahead.{held_on, ready_on, onward, onward_then, read-there}
 use Rattle.optional_elements.specs.SlotGranting.{granting_element, read_granting}
 use Rattle.optional_elements.specs.Laws.Optional.{optional-short, optional_clear, optional-set}
 use Rattle.optional_elements.specs.declared.slot_granting.OptionalGrant.{OptionalGrant}

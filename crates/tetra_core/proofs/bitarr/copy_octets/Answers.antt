@@ -4,8 +4,8 @@ use native.Mathlib.Omega.{arith}
 use lib.ListN.{replicate}
 use Rattle.bits.specs.Bits.{bits_at}
 use Rattle.tetra_core.specs.Quantity.{fill_of}
-use Rattle.bits.specs.Laws.Reads.{length_bits_at}
-use Rattle.bits.specs.Laws.Writes.{put_bits-append}
+use Rattle.bits.proofs.Laws.Reads.{length_bits_at}
+use Rattle.bits.proofs.Laws.Writes.{put_bits-append}
 use Rattle.tetra_core.proofs.bitarr.copy_octets.Goals as goal
 
 pub returns : goal.returns

@@ -5,7 +5,7 @@ use native.Mathlib.Omega.{arith}
 use borrow.Author.Rules.{rules}
 use lib.ListN.{take, drop}
 use Rattle.bits.specs.Bits.{val, odd}
-use Rattle.bits.specs.Laws.Values.{val-nil}
+use Rattle.bits.proofs.Laws.Values.{val-nil}
 use Rattle.tetra_core.proofs.BitBytes.{gather_turn, gather_fits}
 use Rattle.tetra_core.proofs.bitarr.gather.Goals as goal
 

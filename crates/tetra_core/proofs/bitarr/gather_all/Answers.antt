@@ -3,7 +3,7 @@ use native.Mathlib.Omega.{arith}
 use borrow.Author.Rules.{rules}
 use lib.ListN.{length}
 use lib.Seq.{take-length}
-use Rattle.bits.specs.Laws.Writes.{put_bits-nil}
+use Rattle.bits.proofs.Laws.Writes.{put_bits-nil}
 use Rattle.tetra_core.proofs.BitBytes.{gather_all_turn, gathered_lt}
 use Rattle.tetra_core.proofs.bitarr.gather_all.Goals as goal
 

@@ -4,7 +4,7 @@ use native.Mathlib.Omega.{arith}
 use borrow.Author.Rules.{rules}
 use lib.ListN.{length}
 use lib.Seq.{drop-length}
-use Rattle.bits.specs.Laws.Reads.{bits_at_zero}
+use Rattle.bits.proofs.Laws.Reads.{bits_at_zero}
 use Rattle.tetra_core.proofs.BitBytes.{spread_all_turn}
 use Rattle.tetra_core.proofs.bitarr.spread_all.Goals as goal
 

@@ -2,7 +2,7 @@ use Prim.Native.Nat.{◌^◌}
 use mathlib.Core.Path.{sym}
 use lib.Arith.{lt_of_le-ne}
 use borrow.Author.Tests.{lt-ltb}
-use Rattle.bits.specs.Laws.Shifts.{one_shl}
+use Rattle.bits.proofs.Laws.Shifts.{one_shl}
 use Rattle.tetra_core.proofs.bitbuffer.value_fits.Goals as goal
 
 pub returns-then-num_bits-eq64 : goal.returns-then-num_bits-eq64

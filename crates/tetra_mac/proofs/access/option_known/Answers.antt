@@ -1,4 +1,4 @@
-use Rattle.codec.specs.Cases.{last_case}
+use Rattle.codec.proofs.Laws.Cases.{last_case}
 use Rattle.tetra_mac.specs.MacAccess.{option_knowns, option_known}
 use Rattle.tetra_mac.proofs.access.option_known.Goals as goal
 

@@ -1,4 +1,4 @@
-use Rattle.codec.specs.Cases.{last_case}
+use Rattle.codec.proofs.Laws.Cases.{last_case}
 use Rattle.tetra_mac.specs.Address.{ssi_kinds, ssi_of_kind}
 use Rattle.tetra_mac.proofs.address.ssi_of_kind.Goals as goal
 

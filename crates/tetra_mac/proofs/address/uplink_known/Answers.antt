@@ -1,4 +1,4 @@
-use Rattle.codec.specs.Cases.{last_case}
+use Rattle.codec.proofs.Laws.Cases.{last_case}
 use Rattle.tetra_mac.specs.Address.{uplink_knowns, uplink_known}
 use Rattle.tetra_mac.proofs.address.uplink_known.Goals as goal
 

@@ -1,5 +1,5 @@
 use borrow.Author.Rules.{rules}
-use Rattle.codec.specs.Cases.{last_case}
+use Rattle.codec.proofs.Laws.Cases.{last_case}
 use Rattle.tetra_mac.specs.Address.{uplinks, uplink_value}
 use Rattle.tetra_mac.proofs.address.uplink_value.Goals as goal
 

@@ -1,5 +1,5 @@
 use borrow.Author.Rules.{rules}
-use Rattle.codec.specs.Cases.{last_case}
+use Rattle.codec.proofs.Laws.Cases.{last_case}
 use Rattle.tetra_mac.specs.AccessAssign.{one_knowns, one_known}
 use Rattle.tetra_mac.proofs.assign.one_known.Goals as goal
 

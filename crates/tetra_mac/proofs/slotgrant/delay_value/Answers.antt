@@ -1,4 +1,4 @@
-use Rattle.codec.specs.Cases.{last_case}
+use Rattle.codec.proofs.Laws.Cases.{last_case}
 use Rattle.tetra_mac.specs.Slotgrant.{delays, delay_value}
 use Rattle.tetra_mac.proofs.slotgrant.delay_value.Goals as goal
 

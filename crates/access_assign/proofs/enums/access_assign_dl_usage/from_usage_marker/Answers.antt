@@ -1,4 +1,4 @@
-use Rattle.codec.specs.Cases.{last_case}
+use Rattle.codec.proofs.Laws.Cases.{last_case}
 use Rattle.access_assign.specs.Usage.{dl_names, dl_usage_of}
 use Rattle.access_assign.proofs.enums.access_assign_dl_usage.from_usage_marker.Goals as goal
 

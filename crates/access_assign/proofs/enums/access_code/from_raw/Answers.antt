@@ -1,4 +1,4 @@
-use Rattle.codec.specs.Cases.{last_case}
+use Rattle.codec.proofs.Laws.Cases.{last_case}
 use Rattle.access_assign.specs.AccessField.{access_codes, access_code_of}
 use Rattle.access_assign.proofs.enums.access_code.from_raw.Goals as goal
 

@@ -1,4 +1,4 @@
-use Rattle.codec.specs.Cases.{last_case}
+use Rattle.codec.proofs.Laws.Cases.{last_case}
 use Rattle.access_assign.specs.AccessField.{base_frame_lengths, base_frame_length_of}
 use Rattle.access_assign.proofs.structs.base_frame_length.from_raw.Goals as goal
 

@@ -1,4 +1,4 @@
-use Rattle.codec.specs.Cases.{last_case}
+use Rattle.codec.proofs.Laws.Cases.{last_case}
 use Rattle.channel_allocation.specs.ChannelAllocation.{alloc_types, alloc_type_of}
 use Rattle.channel_allocation.proofs.enums.alloc_type.from_raw.Goals as goal
 

@@ -1,4 +1,4 @@
-use Rattle.codec.specs.Cases.{last_case}
+use Rattle.codec.proofs.Laws.Cases.{last_case}
 use Rattle.channel_allocation.specs.ChannelAllocation.{ul_dls, ul_dl_of}
 use Rattle.channel_allocation.proofs.enums.ul_dl_assignment.from_raw.Goals as goal
 

@@ -1,4 +1,4 @@
-use Rattle.codec.specs.Cases.{last_case}
+use Rattle.codec.proofs.Laws.Cases.{last_case}
 use Rattle.mac_resource.specs.Address.{addr_types, addr_type_of}
 use Rattle.mac_resource.proofs.enums.mac_resource_addr_type.from_raw.Goals as goal
 

@@ -1,4 +1,4 @@
-use Rattle.codec.specs.Cases.{last_case}
+use Rattle.codec.proofs.Laws.Cases.{last_case}
 use Rattle.tetra_fields.specs.BasicSlotgrant.{cap_allocs, cap_alloc_of}
 use Rattle.tetra_fields.proofs.enums.basic_slotgrant_cap_alloc.from_raw.Goals as goal
 

@@ -1,4 +1,4 @@
-use Rattle.codec.specs.Cases.{last_case}
+use Rattle.codec.proofs.Laws.Cases.{last_case}
 use Rattle.tetra_fields.specs.ReservationRequirement.{reservations, reservation_of}
 use Rattle.tetra_fields.proofs.enums.reservation_requirement.from_raw.Goals as goal
 

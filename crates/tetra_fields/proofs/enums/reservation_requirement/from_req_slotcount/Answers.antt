@@ -4,7 +4,7 @@ use mathlib.Core.Bool.{true}
 use native.Mathlib.Omega.{arith}
 use lib.Dec.{leb}
 use borrow.Author.Tests.{le-leb}
-use Rattle.codec.specs.Cases.{unmatched}
+use Rattle.codec.proofs.Laws.Cases.{unmatched}
 use Rattle.tetra_fields.specs.ReservationRequirement.{reservations, reservation_for}
 use Rattle.tetra_fields.specs.Laws.ReservationRequirement.{first-is}
 use Rattle.tetra_fields.proofs.enums.reservation_requirement.from_req_slotcount.Goals as goal

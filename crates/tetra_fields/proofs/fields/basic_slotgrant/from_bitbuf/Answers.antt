@@ -1,8 +1,8 @@
 use mathlib.Core.Path.{refl}
 use borrow.Author.Tests.{eq-eqb, ne_eqb}
 use Rattle.tetra_core.specs.Laws.Windows.{good_facts}
-use Rattle.codec.specs.Header.{bad-seen, good-seen, ends}
-use Rattle.codec.specs.Ahead.{next-read}
+use Rattle.codec.proofs.Laws.Header.{bad-seen, good-seen, ends}
+use Rattle.codec.proofs.Laws.Ahead.{next-read}
 use Rattle.tetra_fields.specs.BasicSlotgrant.{read_slotgrant, slotgrant_out, slotgrant_at}
 use Rattle.tetra_fields.proofs.fields.basic_slotgrant.from_bitbuf.Goals as goal
 

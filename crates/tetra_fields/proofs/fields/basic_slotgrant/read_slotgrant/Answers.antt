@@ -1,6 +1,6 @@
 use mathlib.Core.List.{[], ◌∷◌}
-use Rattle.codec.specs.Header.{parsed_word}
-use Rattle.codec.specs.Ahead.{ahead_short}
+use Rattle.codec.proofs.Laws.Header.{parsed_word}
+use Rattle.codec.proofs.Laws.Ahead.{ahead_short}
 use Rattle.tetra_fields.specs.BasicSlotgrant.{read_slotgrant}
 use Rattle.tetra_fields.proofs.fields.basic_slotgrant.read_slotgrant.Goals as goal
 

@@ -1,4 +1,4 @@
-use Rattle.codec.specs.Row.{row_is}
+use Rattle.codec.proofs.Laws.Row.{row_is}
 use Rattle.tetra_fields.specs.BasicSlotgrant.{slotgrant_row}
 use Rattle.tetra_fields.specs.Laws.BasicSlotgrant.{slotgrant_fits}
 use Rattle.tetra_fields.proofs.fields.basic_slotgrant.slotgrant_word.Goals as goal

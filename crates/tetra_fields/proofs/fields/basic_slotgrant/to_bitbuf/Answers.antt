@@ -1,4 +1,4 @@
-use Rattle.codec.specs.Encoded.{encoded_written}
+use Rattle.codec.proofs.Laws.Encoded.{encoded_written}
 use Rattle.tetra_fields.proofs.fields.basic_slotgrant.to_bitbuf.Goals as goal
 
 pub returns : goal.returns

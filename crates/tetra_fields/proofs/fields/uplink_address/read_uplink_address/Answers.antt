@@ -1,5 +1,5 @@
-use Rattle.codec.specs.Header.{alone}
-use Rattle.codec.specs.Ahead.{onward, onward-none, ahead_field-short}
+use Rattle.codec.proofs.Laws.Header.{alone}
+use Rattle.codec.proofs.Laws.Ahead.{onward, onward-none, ahead_field-short}
 use Rattle.tetra_fields.specs.UplinkAddress.{read_uplink_address}
 use Rattle.tetra_fields.proofs.fields.uplink_address.read_uplink_address.Goals as goal
 

@@ -1,7 +1,7 @@
 use native.Mathlib.Omega.{arith}
 use lib.Pow.{pow_mono}
 use mathlib.Core.List.{[], ◌∷◌}
-use Rattle.codec.specs.Cases.{last_case}
+use Rattle.codec.proofs.Laws.Cases.{last_case}
 use Rattle.tetra_core.specs.declared.address.SsiType.TheVariants as Kind'
 use Rattle.tetra_core.specs.declared.address.UplinkAddress.TheVariants.{Ssi, EventLabel, Ussi}
 use Rattle.tetra_fields.specs.UplinkAddress.{uplink_of, uplink_width}

@@ -1,8 +1,8 @@
 use mathlib.Core.List.{[], ◌∷◌}
 use native.Mathlib.Omega.{arith}
 use borrow.Author.Tests.{eq-eqb, ne_eqb}
-use Rattle.codec.specs.Header.{alone}
-use Rattle.codec.specs.Ahead.{held_on, ahead_short, ahead_field-short}
+use Rattle.codec.proofs.Laws.Header.{alone}
+use Rattle.codec.proofs.Laws.Ahead.{held_on, ahead_short, ahead_field-short}
 use Rattle.tetra_fields.specs.UplinkHead.{read_uplink_head, read_uplink_body}
 use Rattle.tetra_fields.proofs.fields.uplink_head.cut_off.Goals as goal
 

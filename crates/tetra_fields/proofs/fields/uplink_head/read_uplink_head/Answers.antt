@@ -9,10 +9,12 @@ use lib.Dec.{lit≤}
 use lib.Pow.{shr_mod}
 use borrow.Author.Tests.{eq-eqb, ne_eqb}
 use Rattle.bits.specs.Bits.{bits_of_nat}
-use Rattle.codec.specs.Reader.{got, field_at, parse_bind}
-use Rattle.codec.specs.Words.{field-word, parse-word}
-use Rattle.codec.specs.Header.{Word, next-part}
-use Rattle.codec.specs.Ahead.{held_on, ready_on, onward, onward-none, onward_then, next-read}
+use Rattle.codec.specs.Reader.{got, field_at}
+use Rattle.codec.proofs.Laws.Reader.{parse_bind}
+use Rattle.codec.proofs.Laws.Words.{field-word, parse-word}
+use Rattle.codec.specs.Header.{Word}
+use Rattle.codec.proofs.Laws.Header.{next-part}
+use Rattle.codec.proofs.Laws.Ahead.{held_on, ready_on, onward, onward-none, onward_then, next-read}
 use Rattle.tetra_fields.specs.UplinkAddress.{uplink_address_out}
 use Rattle.tetra_fields.specs.UplinkHead.{read_uplink_head, read_uplink_body}
 use Rattle.tetra_fields.proofs.fields.uplink_head.read_uplink_head.Goals as goal

@@ -12,10 +12,10 @@ use Rattle.block_rules.specs.Extent.{extent, Spared}
 use Rattle.block_rules.specs.Codec.{HeaderReader}
 use Rattle.block_rules.specs.Read.{read_own, read_pdu}
 use Rattle.block_rules.specs.Walk.{Pdu, Entry, place, end_from, own_size, Walk, go_on}
-use Rattle.block_rules.specs.Laws.Extents.{extent-spared}
-use Rattle.block_rules.specs.Laws.Walks.{from, entry_at, from_end, from-unsized, from_null, from-sized, walk-ind}
-use Rattle.block_rules.specs.Laws.Covering.{Each}
-use Rattle.block_rules.specs.Laws.Own.{own_in}
+use Rattle.block_rules.proofs.Laws.Extents.{extent-spared}
+use Rattle.block_rules.proofs.Laws.Walks.{from, entry_at, from_end, from-unsized, from_null, from-sized, walk-ind}
+use Rattle.block_rules.proofs.Laws.Covering.{Each}
+use Rattle.block_rules.proofs.Laws.Own.{own_in}
 
 -- the PDU at bit p of b has its spared bits in b' too
 unfoldable pub KeptAt : (b b' : List Bool) → ℕ → Type 0

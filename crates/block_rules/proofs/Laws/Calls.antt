@@ -11,7 +11,7 @@ use Rattle.std.proofs.Math.ListN.{length}
 use Rattle.bits.specs.Bits.{put_bits, Bytes}
 use Rattle.tetra_core.specs.Quantity.{octets_of}
 use Rattle.tetra_core.specs.Refusal.{unless, first}
-use Rattle.bits.specs.Laws.Writes.{length-put_bits, bytes-put_bits, put_bits-nil}
+use Rattle.bits.proofs.Laws.Writes.{length-put_bits, bytes-put_bits, put_bits-nil}
 use Rattle.block_rules.specs.Numbers.{least_bits}
 use Rattle.block_rules.specs.Codec.{HeaderWriter, Codec, Laws}
 use Rattle.block_rules.specs.Ending.{Ending, pdu_size}
@@ -19,9 +19,9 @@ use Rattle.block_rules.specs.Writer.{fill_bits, finish_bits, good_bit, Writer, a
 use Rattle.block_rules.specs.Run.{Call, Item, item_at, if_accepted, perform, refusal, run, accepted}
 use Rattle.block_rules.specs.Altered.{bit_at}
 use Rattle.block_rules.specs.Demand3.{IsBlock}
-use Rattle.block_rules.specs.Laws.Blocks.{good-block, put-outside}
-use Rattle.block_rules.specs.Laws.Refusals.{Placed, placed, good-bit, finish-free, finish_accepted, check-free, Free, free}
-use Rattle.block_rules.specs.Laws.WrittenBack.{enough, length_added, length-finish}
+use Rattle.block_rules.proofs.Laws.Blocks.{good-block, put-outside}
+use Rattle.block_rules.proofs.Laws.Refusals.{Placed, placed, good-bit, finish-free, finish_accepted, check-free, Free, free}
+use Rattle.block_rules.proofs.Laws.WrittenBack.{enough, length_added, length-finish}
 
 -- ---- a number that refuses, and 0
 

@@ -4,7 +4,7 @@ use Rattle.std.proofs.Common.{◌∙◌, inl, inr, le_refl, arith, ltb-true, ltb
 use Rattle.block_rules.specs.declared.extent.Extent.{Extent}
 use Rattle.block_rules.specs.Numbers.{least_bits, second_slot_stolen, length_at, address_type_at}
 use Rattle.block_rules.specs.Extent.{pdu_type, length_field, address_type, counted_extent, resource_extent, extent_of, extent, Spared}
-use Rattle.block_rules.specs.Laws.Lists.{cond_ind, field-take, field-same}
+use Rattle.block_rules.proofs.Laws.Lists.{cond_ind, field-take, field-same}
 
 -- ---- the bits left
 

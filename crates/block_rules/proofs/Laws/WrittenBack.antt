@@ -5,7 +5,7 @@ use Rattle.std.proofs.Math.Decide.{dec_lt}
 use Rattle.std.proofs.lemmas.List.{length-replicate}
 use Rattle.std.proofs.Math.Seq.{drop_at}
 use Rattle.bits.specs.Bits.{val, bits_of_nat, odd}
-use Rattle.bits.specs.Laws.Values.{length-bits_of_nat}
+use Rattle.bits.proofs.Laws.Values.{length-bits_of_nat}
 use Rattle.tetra_core.specs.Quantity.{octets_of}
 use Rattle.block_rules.specs.declared.extent.Extent.{Extent}
 use Rattle.block_rules.specs.Numbers.{most_bits, least_bits, length_at, address_type_at}
@@ -15,9 +15,9 @@ use Rattle.block_rules.specs.Codec.{Codec, Laws}
 use Rattle.block_rules.specs.Read.{Reading, behind_header, read_own}
 use Rattle.block_rules.specs.Writer.{flag_of, fill_bits, null_bits, finish_bits, Writer, Add, content_of, total_of, length_in, size_of, fill_of, added_bits}
 use Rattle.block_rules.specs.Run.{as_read}
-use Rattle.block_rules.specs.Laws.Lists.{cond_ind, field-append, length-fill, before-fill}
-use Rattle.block_rules.specs.Laws.Extents.{Bounds, bounds}
-use Rattle.block_rules.specs.Laws.Refusals.{Free}
+use Rattle.block_rules.proofs.Laws.Lists.{cond_ind, field-append, length-fill, before-fill}
+use Rattle.block_rules.proofs.Laws.Extents.{Bounds, bounds}
+use Rattle.block_rules.proofs.Laws.Refusals.{Free}
 
 -- ---- the size that a writer takes
 

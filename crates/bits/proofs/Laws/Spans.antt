@@ -4,9 +4,9 @@ use Rattle.std.proofs.Common.{arith}
 use Rattle.std.proofs.lemmas.List.{length-replicate, replicate-append-replicate}
 use Rattle.std.proofs.Math.Pow.{high}
 use Rattle.bits.specs.Bits.{val, bits_of_nat, bits_at, get_bits, put_bits}
-use Rattle.bits.specs.Laws.Values.{val-append, val_lt, bits_of_nat-val}
-use Rattle.bits.specs.Laws.Reads.{get_is, bits_at_add, length_bits_at}
-use Rattle.bits.specs.Laws.Writes.{put_bits-append}
+use Rattle.bits.proofs.Laws.Values.{val-append, val_lt, bits_of_nat-val}
+use Rattle.bits.proofs.Laws.Reads.{get_is, bits_at_add, length_bits_at}
+use Rattle.bits.proofs.Laws.Writes.{put_bits-append}
 
 -- a write of which the bits xs are done goes on by the bits ys, which the code has as a number
 pub goes_on : (s₀ s : List ℕ) (p j k v : ℕ) (xs ys : List Bool) → s ≡ put_bits s₀ p xs → length xs ≡ j → length ys ≡ k → v ≡ val ys

@@ -11,10 +11,10 @@ use Rattle.block_rules.specs.Read.{Reading}
 use Rattle.block_rules.specs.Walk.{Pdu, Entry, own_size, size_in, own_bits, first_pdu, step, follow, walk_from, walk}
 use Rattle.block_rules.specs.Altered.{IsPdu}
 use Rattle.block_rules.specs.Demand3.{IsBlock, Covers}
-use Rattle.block_rules.specs.Laws.Walks.{from, from_step, covered}
-use Rattle.block_rules.specs.Laws.Covering.{lies, at_most}
-use Rattle.block_rules.specs.Laws.Own.{own_in, Alone, alone, Parts, PartsOf, parts_in}
-use Rattle.block_rules.specs.Laws.Blocks.{block, part-part, length-block, step_block, walk_block, own_block}
+use Rattle.block_rules.proofs.Laws.Walks.{from, from_step, covered}
+use Rattle.block_rules.proofs.Laws.Covering.{lies, at_most}
+use Rattle.block_rules.proofs.Laws.Own.{own_in, Alone, alone, Parts, PartsOf, parts_in}
+use Rattle.block_rules.proofs.Laws.Blocks.{block, part-part, length-block, step_block, walk_block, own_block}
 
 module _ {H : Type 0} (R : HeaderReader H) where
   module _ (n : ℕ) (v : List ℕ) (holds : IsBlock n v) where

@@ -14,10 +14,10 @@ use Rattle.block_rules.specs.Extent.{extent}
 use Rattle.block_rules.specs.Codec.{HeaderReader, Inside}
 use Rattle.block_rules.specs.Read.{Reading, before_last_one, behind_header, read_own, read_pdu}
 use Rattle.block_rules.specs.Walk.{Pdu, Entry, own_size, size_in, pdu_of, first_pdu, go_on}
-use Rattle.block_rules.specs.Laws.Lists.{before_starts}
-use Rattle.block_rules.specs.Laws.Extents.{extent-null, extent-sized}
-use Rattle.block_rules.specs.Laws.Walks.{from, walk-ind}
-use Rattle.block_rules.specs.Laws.Covering.{Each, each_nil, each_cons}
+use Rattle.block_rules.proofs.Laws.Lists.{before_starts}
+use Rattle.block_rules.proofs.Laws.Extents.{extent-null, extent-sized}
+use Rattle.block_rules.proofs.Laws.Walks.{from, walk-ind}
+use Rattle.block_rules.proofs.Laws.Covering.{Each, each_nil, each_cons}
 
 -- the bits of a PDU of the block b
 abbrev pub own_in : {H : Type 0} → List Bool → Entry H → List Bool

@@ -2,7 +2,7 @@
 use Rattle.std.specs.Prelude.{ℕ, zero, suc, ◌*◌, ◌≤◌, ◌<◌, ◌≡◌, refl, [], List, ◌∷◌, ◌++◌, Bool, length, take, drop, set}
 use Rattle.std.proofs.Common.{sym, ap, ap₂, ◌∙◌, append_assoc, mod-eq_of_lt, lt_of_lt_of_le, arith, length-append, length-take, length-drop, take-append-drop, length-take-le, take_at, drop_at, pow_mono}
 use Rattle.bits.specs.Bits.{val, bits_of_nat, bits_of, pack, Bytes}
-use Rattle.bits.specs.Laws.Values.{val_lt, length-bits_of_nat, val-bits_of_nat, bits_of_nat-val}
+use Rattle.bits.proofs.Laws.Values.{val_lt, length-bits_of_nat, val-bits_of_nat, bits_of_nat-val}
 
 pub bits_of_nil : bits_of [] ≡ []
 unfolding bits_of

@@ -6,7 +6,7 @@ use Rattle.std.proofs.Math.Option.{Option, none, some}
 use Rattle.std.proofs.lemmas.List.{length-replicate}
 use Rattle.std.proofs.Math.Seq.{take-append_seam}
 use Rattle.bits.specs.Bits.{val}
-use Rattle.codec.specs.Ahead.{part-take}
+use Rattle.codec.proofs.Laws.Ahead.{part-take}
 use Rattle.block_rules.specs.Extent.{field}
 use Rattle.block_rules.specs.Read.{extend, before_last_one}
 use Rattle.block_rules.specs.Writer.{fill_bits}

@@ -13,7 +13,7 @@ use Rattle.block_rules.specs.Codec.{HeaderReader}
 use Rattle.block_rules.specs.Read.{Reading, read_pdu}
 use Rattle.block_rules.specs.Walk.{Pdu, own_size, Step, step_of, pdu_of, first_pdu, step_at, Walk, ended, entries_then, go_on, follow, walk_by}
 use Rattle.block_rules.specs.Demand3.{Covers}
-use Rattle.block_rules.specs.Laws.Extents.{Bounds, bounds, extent-short}
+use Rattle.block_rules.proofs.Laws.Extents.{Bounds, bounds, extent-short}
 
 module _ {H : Type 0} (R : HeaderReader H) (b : List Bool) where
   -- a step, by its extent

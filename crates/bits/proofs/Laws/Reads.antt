@@ -3,8 +3,8 @@ use Rattle.std.specs.Prelude.{ℕ, ◌+◌, ◌*◌, ◌/◌, ◌%◌, ◌^◌, 
 use Rattle.std.proofs.Common.{mul_assoc, add-mul, add_assoc, arith, length-drop, length-take-le, take-add, drop-drop, pow-add}
 use Rattle.std.proofs.Math.Pow.{high, low}
 use Rattle.bits.specs.Bits.{val, bits_of_nat, bits_of, bits_at, get_bits}
-use Rattle.bits.specs.Laws.Values.{val-nil, val-append, val_lt, bits_of_nat-val}
-use Rattle.bits.specs.Laws.Bytes.{length_bits_of}
+use Rattle.bits.proofs.Laws.Values.{val-nil, val-append, val_lt, bits_of_nat-val}
+use Rattle.bits.proofs.Laws.Bytes.{length_bits_of}
 
 pub at-is : (s : List ℕ) (p n : ℕ) → bits_at s p n ≡ take n (drop p (bits_of s))
 unfolding bits_at

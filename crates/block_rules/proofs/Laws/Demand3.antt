@@ -3,10 +3,10 @@ use Rattle.std.specs.Prelude.{List, ℕ}
 use Rattle.block_rules.specs.Codec.{Codec, Laws}
 use Rattle.block_rules.specs.Run.{Call, start, run}
 use Rattle.block_rules.specs.Demand3.{OfTheWalk, OfAlteredPdus, OfARun, OfEachCall, Demand3}
-use Rattle.block_rules.specs.Laws.Held.{steps, covers, count, parts, own_bits-alone}
-use Rattle.block_rules.specs.Laws.Altered.{several, one, any_bits_lem}
-use Rattle.block_rules.specs.Laws.Calls.{refused_call, same_length_lem, run_holds, untouched, after_finish_lem, add-after-finish}
-use Rattle.block_rules.specs.Laws.Runs.{run_reads}
+use Rattle.block_rules.proofs.Laws.Held.{steps, covers, count, parts, own_bits-alone}
+use Rattle.block_rules.proofs.Laws.Altered.{several, one, any_bits_lem}
+use Rattle.block_rules.proofs.Laws.Calls.{refused_call, same_length_lem, run_holds, untouched, after_finish_lem, add-after-finish}
+use Rattle.block_rules.proofs.Laws.Runs.{run_reads}
 
 module _ {A H : Type 0} (C : Codec A H) (L : Laws C) where
   of_the_walk : OfTheWalk C.reader

@@ -6,9 +6,9 @@ use mathlib.Core.List.{[], List, ◌++◌}
 use Rattle.std.proofs.Math.ListN.{length, drop, length-drop}
 use Rattle.std.proofs.Math.Seq.{drop-drop}
 use Rattle.bits.specs.Bits.{val, bits_of_nat, bits_of, pack, splice, bits_at, get_bits, put_bits, Bytes}
-use Rattle.bits.specs.Laws.Values.{length-bits_of_nat, val-bits_of_nat}
-use Rattle.bits.specs.Laws.Bytes.{length_bits_of, length-pack, bits_of_pack, pack_bits_of, bytes-pack}
-use Rattle.bits.specs.Laws.Splice.{length-splice, splice-nil, splice-append, splice_at, splice-after}
+use Rattle.bits.proofs.Laws.Values.{length-bits_of_nat, val-bits_of_nat}
+use Rattle.bits.proofs.Laws.Bytes.{length_bits_of, length-pack, bits_of_pack, pack_bits_of, bytes-pack}
+use Rattle.bits.proofs.Laws.Splice.{length-splice, splice-nil, splice-append, splice_at, splice-after}
 
 pub put_is : (s : List ℕ) (p : ℕ) (xs : List Bool) → put_bits s p xs ≡ pack (length s) (splice p xs (bits_of s))
 unfolding put_bits

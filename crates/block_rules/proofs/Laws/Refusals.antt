@@ -3,14 +3,14 @@ use Rattle.std.specs.Prelude.{◌≡◌, refl, ◌⊎◌, Bool, true, false, ◌
 use Rattle.std.proofs.Common.{inl, inr, arith}
 use borrow.Author.Tests.{le-leb, leb-true, eq-eqb, eqb-true, eqb-false}
 use Rattle.tetra_core.specs.Refusal.{first, first-none, passed}
-use Rattle.bits.specs.Laws.Reads.{length_bits_at}
+use Rattle.bits.proofs.Laws.Reads.{length_bits_at}
 use Rattle.block_rules.specs.Numbers.{most_bits}
 use Rattle.block_rules.specs.Codec.{HeaderWriter}
 use Rattle.block_rules.specs.Walk.{good_block}
 use Rattle.block_rules.specs.Writer.{good_bit, Writer, after, finish_refusal, finished, finish_to, Add, content_of, total, total_of, check_of, refusal_of, add_check, add_refusal}
 use Rattle.block_rules.specs.Run.{Call, refusal}
 use Rattle.block_rules.specs.Demand3.{IsBlock}
-use Rattle.block_rules.specs.Laws.Blocks.{both, held, good-block}
+use Rattle.block_rules.proofs.Laws.Blocks.{both, held, good-block}
 
 -- ---- the writer's bit
 

@@ -9,8 +9,8 @@ use Rattle.std.proofs.Math.Decide.{ℕ_discrete}
 use borrow.Author.Tests.{ltb-true, ltb-false}
 use Rattle.std.proofs.Math.ListN.{length}
 use Rattle.bits.specs.Bits.{splice}
-use Rattle.bits.specs.Laws.Splice.{length-splice, splice_at, splice-before}
-use Rattle.codec.specs.Ahead.{part-take}
+use Rattle.bits.proofs.Laws.Splice.{length-splice, splice_at, splice-before}
+use Rattle.codec.proofs.Laws.Ahead.{part-take}
 use Rattle.block_rules.specs.Numbers.{least_bits}
 use Rattle.block_rules.specs.declared.extent.Extent.{Extent}
 use Rattle.block_rules.specs.Extent.{extent}
@@ -20,12 +20,12 @@ use Rattle.block_rules.specs.Walk.{Pdu, Entry, Walk, entries_then, go_on, walk}
 use Rattle.block_rules.specs.Writer.{finish_bits, Writer, finished, Add, size_of, added_bits, added}
 use Rattle.block_rules.specs.Run.{Call, Item, start, holds_finish, item_at, closing, as_pdu, as_entry, perform, refusal, run, accepted, finished_at, expected}
 use Rattle.block_rules.specs.Demand3.{IsBlock}
-use Rattle.block_rules.specs.Laws.Lists.{cond_ind}
-use Rattle.block_rules.specs.Laws.Walks.{from, from_end, from_null, from-sized}
-use Rattle.block_rules.specs.Laws.Blocks.{block, length-block, walk_block, put-block}
-use Rattle.block_rules.specs.Laws.Refusals.{Placed, finish_accepted, Free, free}
-use Rattle.block_rules.specs.Laws.WrittenBack.{length_added, read_added, extent_added, length-finish, extent-finish}
-use Rattle.block_rules.specs.Laws.Calls.{refused_call, accepted_call, accepted_add, accepted_refused, added_place, holds-put, now_finished, run_finished, accepted_finished}
+use Rattle.block_rules.proofs.Laws.Lists.{cond_ind}
+use Rattle.block_rules.proofs.Laws.Walks.{from, from_end, from_null, from-sized}
+use Rattle.block_rules.proofs.Laws.Blocks.{block, length-block, walk_block, put-block}
+use Rattle.block_rules.proofs.Laws.Refusals.{Placed, finish_accepted, Free, free}
+use Rattle.block_rules.proofs.Laws.WrittenBack.{length_added, read_added, extent_added, length-finish, extent-finish}
+use Rattle.block_rules.proofs.Laws.Calls.{refused_call, accepted_call, accepted_add, accepted_refused, added_place, holds-put, now_finished, run_finished, accepted_finished}
 
 module _ {H : Type 0} (R : HeaderReader H) where
   -- the walk of any block with the first p bits of b gives es, and goes on at p

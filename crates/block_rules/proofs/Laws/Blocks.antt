@@ -8,11 +8,11 @@ use Rattle.std.proofs.Math.ListN.{length}
 use Rattle.std.proofs.lemmas.List.{take-append-le, drop-append-le}
 use Rattle.std.proofs.Math.Seq.{take_at, length-take-le}
 use Rattle.bits.specs.Bits.{bits_of, splice, bits_at, put_bits}
-use Rattle.bits.specs.Laws.Bytes.{length_bits_of}
-use Rattle.bits.specs.Laws.Splice.{length-splice, splice-before, splice-after}
-use Rattle.bits.specs.Laws.Reads.{length_bits_at, bits_at_add}
-use Rattle.bits.specs.Laws.Writes.{bits_of_put_bits}
-use Rattle.codec.specs.Ahead.{part-take}
+use Rattle.bits.proofs.Laws.Bytes.{length_bits_of}
+use Rattle.bits.proofs.Laws.Splice.{length-splice, splice-before, splice-after}
+use Rattle.bits.proofs.Laws.Reads.{length_bits_at, bits_at_add}
+use Rattle.bits.proofs.Laws.Writes.{bits_of_put_bits}
+use Rattle.codec.proofs.Laws.Ahead.{part-take}
 use Rattle.block_rules.specs.Numbers.{most_bits}
 use Rattle.block_rules.specs.declared.extent.Extent.{Extent}
 use Rattle.block_rules.specs.Extent.{extent}
@@ -20,8 +20,8 @@ use Rattle.block_rules.specs.Codec.{HeaderReader}
 use Rattle.block_rules.specs.Walk.{good_block, Entry, size_in, own_bits, step_of, pdu_of, first_pdu, step_at, step, walk_by, walk_from}
 use Rattle.block_rules.specs.Altered.{bit_at}
 use Rattle.block_rules.specs.Demand3.{IsBlock}
-use Rattle.block_rules.specs.Laws.Walks.{from}
-use Rattle.block_rules.specs.Laws.Own.{own_in}
+use Rattle.block_rules.proofs.Laws.Walks.{from}
+use Rattle.block_rules.proofs.Laws.Own.{own_in}
 
 -- the block's bits
 abbrev pub block : ℕ → List ℕ → List Bool

@@ -10,19 +10,19 @@ use Rattle.std.proofs.lemmas.Bool.{eqb-false}
 use Rattle.std.proofs.Math.ListN.{length, get_or, get_elem?}
 use Rattle.std.proofs.lemmas.List.{length-map}
 use Rattle.bits.specs.Bits.{put_bits}
-use Rattle.bits.specs.Laws.Writes.{bits_at_put_bits}
+use Rattle.bits.proofs.Laws.Writes.{bits_at_put_bits}
 use Rattle.block_rules.specs.Numbers.{least_bits}
 use Rattle.block_rules.specs.Extent.{Spared}
 use Rattle.block_rules.specs.Codec.{HeaderReader}
 use Rattle.block_rules.specs.Walk.{Entry, place, size_in, own_bits, walk}
 use Rattle.block_rules.specs.Altered.{IsPdu, SparedIn, Altered, AlteredOne}
 use Rattle.block_rules.specs.Demand3.{IsBlock, Isolated}
-use Rattle.block_rules.specs.Laws.Extents.{spared-near, spared_own}
-use Rattle.block_rules.specs.Laws.Covering.{none-same, Lies, lies, apart}
-use Rattle.block_rules.specs.Laws.Own.{own_in}
-use Rattle.block_rules.specs.Laws.Isolation.{KeptAt, Alike, alike}
-use Rattle.block_rules.specs.Laws.Blocks.{block, put-outside, bit-part, bit-block, same-part, length-block, own_block}
-use Rattle.block_rules.specs.Laws.Held.{walk_is, covers, own_is}
+use Rattle.block_rules.proofs.Laws.Extents.{spared-near, spared_own}
+use Rattle.block_rules.proofs.Laws.Covering.{none-same, Lies, lies, apart}
+use Rattle.block_rules.proofs.Laws.Own.{own_in}
+use Rattle.block_rules.proofs.Laws.Isolation.{KeptAt, Alike, alike}
+use Rattle.block_rules.proofs.Laws.Blocks.{block, put-outside, bit-part, bit-block, same-part, length-block, own_block}
+use Rattle.block_rules.proofs.Laws.Held.{walk_is, covers, own_is}
 
 module _ {H : Type 0} (R : HeaderReader H) where
   module _ (n : ℕ) (v v' : List ℕ) (holds : IsBlock n v) (holds' : IsBlock n v') where

@@ -16,8 +16,8 @@ use Rattle.block_rules.specs.Extent.{field, resource_extent, extent}
 use Rattle.block_rules.specs.Ending.{length_of, pdu_size}
 use Rattle.block_rules.specs.Codec.{Laws}
 use Rattle.block_rules.specs.Downlink.{HeaderToAdd, ending_of, downlink_codec}
-use Rattle.block_rules.specs.Laws.Extents.{extent_resource}
-use Rattle.block_rules.specs.Laws.WrittenBack.{counted-size}
+use Rattle.block_rules.proofs.Laws.Extents.{extent_resource}
+use Rattle.block_rules.proofs.Laws.WrittenBack.{counted-size}
 
 -- the length that a writer sets has 6 bits
 pub length<64 : (i : LengthIndication) (n : ℕ) → n ≤ most_bits → length_of (ending_of i) n < 64

@@ -1,0 +1,14 @@
+pub mod Ahead
+pub mod AllBelow
+pub mod Cases
+pub mod Encoded
+pub mod Header
+pub mod LentPart
+pub mod Piece
+pub mod Reader
+pub mod RoundTrip
+pub mod Row
+pub mod Width
+pub mod Words
+pub mod Write
+pub mod WrittenAgain
