@@ -1,4 +1,4 @@
-//! The header and `sys` declare exactly the functions of crates/tetra_mac, tetra_resource and tetra_block, with their parameters.
+//! The header and `sys` declare exactly the functions of crates/tetra_mac_c, tetra_resource_c and tetra_block_c, with their parameters.
 use std::collections::BTreeMap;
 use std::path::Path;
 
@@ -59,7 +59,7 @@ fn c(parameter: &str) -> Vec<&'static str> {
 #[test]
 fn declared() {
     let mut there = Functions::new();
-    for folder in ["crates/tetra_mac/src", "crates/tetra_resource/src", "crates/tetra_block/src"] {
+    for folder in ["crates/tetra_mac_c/src", "crates/tetra_resource_c/src", "crates/tetra_block_c/src"] {
         for entry in std::fs::read_dir(Path::new(env!("CARGO_MANIFEST_DIR")).join("../..").join(folder)).expect(folder) {
             let text = std::fs::read_to_string(entry.expect("a file").path()).expect("a file of text");
             there.extend(functions(&text, "pub extern \"C\" fn ", source));
