@@ -1,10 +1,10 @@
 /* Bits, upper-MAC headers and downlink MAC blocks of a TETRA cell (ETSI EN 300 392-2, clause 21): the C interface, crates/tetra_mac,
  * of MAC-RESOURCE crates/tetra_resource, and of blocks crates/tetra_block.
  *
- * `rt staticlib tetra_mac`, `tetra_resource` and `tetra_block` prove it and write target/staticlib/libtetra_mac.a, libtetra_resource.a and
- * libtetra_block.a for x86-64; who calls tetra_mac_resource_.. needs the second, who calls tetra_block_.. the third, and none needs another.
- * Every function below is proved to return, to do
- * nothing undefined and to give exactly the answer of its definition, for every input: there is nothing that a caller must check first.
+ * `bindings/staticlib` proves it and writes target/staticlib/libtetra_mac.a, libtetra_resource.a and libtetra_block.a for x86-64, from the
+ * exports in crates/tetra_mac_c, tetra_resource_c and tetra_block_c; who calls tetra_mac_resource_.. needs the second, who calls
+ * tetra_block_.. the third, and none needs another. Every function below is proved to return, to do nothing undefined and to give exactly
+ * the answer of its definition, for every input: there is nothing that a caller must check first.
  *
  * SLICES. A slice is a pointer and the count of its elements, which are really there. A slice of count 0 may have any pointer. Slices of one
  * call do not overlap, unless both are only read. Nothing is kept after the call.

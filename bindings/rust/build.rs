@@ -5,8 +5,12 @@ use std::process::{Command, Stdio};
 
 fn proved() -> PathBuf {
     let root = Path::new(env!("CARGO_MANIFEST_DIR")).join("../..");
-    for input in ["crates", "crates.txt"] {
-        println!("cargo:rerun-if-changed={}", root.join(input).display());
+    println!("cargo:rerun-if-changed={}", root.join("crates.txt").display());
+    for folder in std::fs::read_dir(root.join("crates")).expect("crates").flatten() {
+        // What a crate is made from. Beside it stands what rt makes.
+        for part in ["src", "specs", "proofs"].map(|part| folder.path().join(part)).iter().filter(|part| part.exists()) {
+            println!("cargo:rerun-if-changed={}", part.display());
+        }
     }
     match Command::new(root.join("bindings/staticlib")).stderr(Stdio::inherit()).output() {
         Ok(done) if done.status.success() => PathBuf::from(String::from_utf8_lossy(&done.stdout).trim_end()),

@@ -1,14 +1,9 @@
 -- What is on its way out: the number that refuses it, and its bits in pieces. A header's pieces have the length and the fill flag at places of
 -- their own, which are set when it is written.
-use Rattle.std.specs.Prelude.{ℕ, ◌+◌, ◌-◌, ◌*◌, ◌^◌, ◌≤◌, ◌<◌, ◌≡◌, refl, List, [], ◌∷◌, ◌++◌, Bool, false, length}
-use Rattle.std.proofs.Common.{sym, ap, ◌∙◌, append_assoc, append-nil, add-zero, mod-eq_of_lt, arith, length-append}
-use Rattle.bits.specs.Bits.{digit, val, bits_of_nat}
-use Rattle.bits.proofs.Laws.Values.{digit_lt, bits-zero, length-bits_of_nat, val-append, val_lt, val-bits_of_nat, bits_of_nat-val}
-use Rattle.tetra_core.specs.Refusal.{first, first-none}
-use Rattle.tetra_core.specs.declared.bitbuffer.Cursor.{Cursor}
-use Rattle.tetra_core.specs.declared.bitbuffer.Moved.{Moved}
-use Rattle.codec.specs.Write.{write_at, written_at}
-use Rattle.codec.specs.Piece.{piece_bits, Holds}
+use Rattle.std.specs.Prelude.{ℕ, ◌+◌, ◌-◌, ◌*◌, ◌^◌, ◌≤◌, ◌<◌, ◌≡◌, List, [], ◌∷◌, ◌++◌, Bool, false, length}
+use Rattle.bits.specs.Bits.{digit, bits_of_nat}
+use Rattle.tetra_core.specs.Refusal.{first}
+use Rattle.codec.specs.Piece.{piece_bits}
 use Rattle.codec.specs.declared.piece.Piece.{Piece}
 use Rattle.codec.specs.declared.encoded.Encoded.{Encoded}
 use Rattle.codec.specs.declared.encoded.Places.{Places}

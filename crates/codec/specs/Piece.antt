@@ -1,10 +1,6 @@
 -- A piece of what is written: the low bits of a number, on their way out.
-use Rattle.std.specs.Prelude.{ℕ, ◌+◌, ◌*◌, ◌^◌, ◌≤◌, ◌<◌, ◌≡◌, refl, List, ◌∷◌, ◌++◌, Bool, length}
-use Rattle.std.proofs.Math.Arith.{digits_lt}
-use Rattle.std.proofs.Common.{lit<, pow-add, length-append}
+use Rattle.std.specs.Prelude.{ℕ, ◌+◌, ◌*◌, ◌^◌, ◌≤◌, ◌<◌, ◌≡◌, List, Bool}
 use Rattle.bits.specs.Bits.{bits_of_nat}
-use Rattle.bits.proofs.Laws.Values.{length-bits_of_nat}
-use Rattle.codec.specs.Row.{Cell, cell, row_bits, RowIs}
 use Rattle.codec.specs.declared.piece.Piece.{Piece}
 
 abbrev pub piece_bits : Piece → List Bool

@@ -1,18 +1,8 @@
 -- What was written is read back: a reader that meets the cells of a row, width for width, gets their values.
-use Rattle.std.specs.Prelude.{ℕ, ◌+◌, ◌-◌, ◌*◌, ◌≤◌, ◌≡◌, refl, List, [], ◌∷◌, ◌++◌, Bool, true, false, cond, eqb, length}
-use Rattle.std.proofs.Common.{ap, ◌∙◌, append_assoc, arith, add_assoc, eqb-true}
-use Rattle.bits.specs.Bits.{bits_at, put_bits}
-use Rattle.tetra_core.specs.BitBuffer.{remaining, moved}
-use Rattle.bits.proofs.Laws.Reads.{bits_at_add}
-use Rattle.bits.proofs.Laws.Writes.{length-put_bits, bits_at_put_bits, bits_at_after}
-use Rattle.tetra_core.specs.Laws.Windows.{Good, good_test}
-use Rattle.tetra_core.specs.declared.bitbuffer.Cursor.{Cursor}
-use Rattle.tetra_core.specs.declared.refusal.Refusal.{Refusal}
+use Rattle.std.specs.Prelude.{ℕ, ◌+◌, List, [], ◌∷◌, ◌++◌, Bool, cond, eqb}
 use Rattle.codec.specs.Reader.{Out, got, refused, Reader, done, refuse, field, here, choose, parse}
 use Rattle.codec.specs.Words.{past}
-use Rattle.codec.specs.Header.{within, at_cursor}
-use Rattle.codec.specs.Write.{refusal_at, written_at}
-use Rattle.codec.specs.Row.{Cell, cell, row_bits, RowFits}
+use Rattle.codec.specs.Row.{Cell, cell, row_bits}
 
 abbrev pub on_row : {A : Type 0} → List Cell → A → (ℕ → ℕ → List Cell → A) → A
 on_row [] a f = a

@@ -1,13 +1,9 @@
 -- A word stands in front of the bits: each field that fits in what is left of the word x is a part of x, got by a division and a
 -- remainder. So code may read several fields as one number while the definition reads them one by one.
-use Rattle.std.specs.Prelude.{ℕ, zero, suc, ◌+◌, ◌-◌, ◌/◌, ◌%◌, ◌^◌, ◌≤◌, ◌<◌, ◌≡◌, refl, List, [], ◌∷◌, ◌++◌, Bool, true, false, cond, length, take, drop, get_or, leb, eqb}
-use Rattle.std.proofs.Common.{sym, ap, ◌∙◌, append_assoc, arith, add_assoc, add-zero, div-one, mod-eq_of_lt, add-one, length-drop, drop_of_length-le, drop-cons, leb-true, leb-false, le-leb, eqb-true}
-use Rattle.std.proofs.Math.Nat.{pow-zero}
+use Rattle.std.specs.Prelude.{ℕ, zero, suc, ◌+◌, ◌-◌, ◌/◌, ◌%◌, ◌^◌, List, [], ◌∷◌, ◌++◌, Bool, cond, leb, eqb}
 use Rattle.std.proofs.Math.Dec.{when}
-use Rattle.std.proofs.lemmas.Bool.{lt-leb}
-use Rattle.bits.specs.Bits.{val, bits_of_nat}
-use Rattle.bits.proofs.Laws.Values.{length-bits_of_nat, val-bits_of_nat, bits_of_nat-add, bits-zero}
-use Rattle.codec.specs.Reader.{Out, got, refused, field_at, Reader, done, refuse, field, here, choose, parse}
+use Rattle.bits.specs.Bits.{bits_of_nat}
+use Rattle.codec.specs.Reader.{Out, got, refused, Reader, done, refuse, field, here, choose, parse}
 
 -- u bits on
 abbrev pub past : ℕ → ℕ → ℕ

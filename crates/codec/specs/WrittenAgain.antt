@@ -1,20 +1,11 @@
 -- What was read, written again, gives the bits that were read: how a reader's value stands to the bits that it took.
-use Rattle.std.specs.Prelude.{ℕ, ◌+◌, ◌-◌, ◌*◌, ◌^◌, ◌≤◌, ◌<◌, ◌≡◌, refl, List, [], ◌++◌, Bool, true, false, length, take, drop, leb}
-use Rattle.std.proofs.Common.{sym, ap, ◌∙◌, subst, append_assoc, arith, take-append-drop, length-take-le, take-add, take-take, drop-drop, leb-true, leb-false}
-use Rattle.std.proofs.Math.Nat.{sub_self}
-use Rattle.bits.specs.Bits.{val, bits_of_nat, bits_of, splice, bits_at, put_bits, Bytes}
-use Rattle.bits.proofs.Laws.Bytes.{bits_of_inj}
-use Rattle.bits.proofs.Laws.Reads.{at-is, length_bits_at}
-use Rattle.bits.proofs.Laws.Values.{val_lt, bits_of_nat-val}
-use Rattle.bits.proofs.Laws.Writes.{bits_of_put_bits, bytes-put_bits}
-use Rattle.tetra_core.specs.BitBuffer.{good_window, remaining, moved}
-use Rattle.tetra_core.specs.Laws.Windows.{Good, good_facts}
+use Rattle.std.specs.Prelude.{ℕ, ◌^◌, ◌<◌, ◌≡◌, List, [], ◌++◌, Bool, true, false, length}
+use Rattle.bits.specs.Bits.{bits_of_nat}
+use Rattle.tetra_core.specs.BitBuffer.{moved}
+use Rattle.tetra_core.specs.Laws.Windows.{Good}
 use Rattle.tetra_core.specs.declared.bitbuffer.Cursor.{Cursor}
-use Rattle.tetra_core.specs.declared.bitbuffer.Outcome.TheVariants.{Done}
-use Rattle.tetra_core.specs.declared.refusal.Refusal.{Refusal}
-use Rattle.codec.specs.Reader.{Out, got, refused, Reader, done, refuse, field, here, choose, parse, ◌>>=◌}
-use Rattle.codec.specs.Header.{within, answered, at_cursor}
-use Rattle.codec.specs.Write.{write_at, written_at}
+use Rattle.codec.specs.Reader.{got, Reader, done, refuse, field, here, choose, parse}
+use Rattle.codec.specs.Header.{within}
 
 -- whatever the fields of a reader hold, the value that it gives and the bits of its fields are in P
 abbrev pub Every : {A : Type 0} → Reader A → (A → List Bool → Type 0) → Type 0

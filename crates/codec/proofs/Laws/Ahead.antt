@@ -12,11 +12,10 @@ use Rattle.codec.proofs.Laws.Words.{short}
 use Rattle.tetra_core.specs.BitBuffer.{remaining}
 use Rattle.tetra_core.specs.Laws.Windows.{Good}
 use Rattle.tetra_core.specs.declared.bitbuffer.Cursor.{Cursor}
-use Rattle.tetra_core.specs.declared.refusal.Refusal.{Refusal}
-use Rattle.codec.specs.Header.{Word, Reads, part_out, within}
+use Rattle.codec.specs.Header.{Word, within}
 use Rattle.codec.proofs.Laws.Header.{read, word-there, length_left}
 use Rattle.codec.specs.declared.Ahead.{Ahead}
-use Rattle.codec.specs.Ahead.{next_bits, Held, NextBits, part_after, ReadsNext, Ready, Onward, advanced, ending_in}
+use Rattle.codec.specs.Ahead.{next_bits, Held, ReadsNext, Ready, Onward, advanced, ending_in}
 
 -- ---- laws
 

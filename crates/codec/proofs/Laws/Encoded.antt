@@ -15,7 +15,7 @@ use Rattle.codec.specs.declared.encoded.Encoded.{Encoded}
 use Rattle.codec.specs.declared.encoded.Places.{Places}
 use Rattle.codec.specs.declared.encoded.Tail.{Tail}
 use Rattle.codec.specs.declared.encoded.EncodedHeader.{EncodedHeader}
-use Rattle.codec.specs.Encoded.{pieces_bits, pieces_size, AllFew, Fit, Sound, Encodes, EncodesOne, set_in, front_with, pieces_with, size_of, bits_with, Few, Placed, PuttableHeader, EncodesHeader, Settable, no_tail, whole_of, EncodesTail, Spaced}
+use Rattle.codec.specs.Encoded.{pieces_bits, Sound, Encodes, EncodesOne, set_in, front_with, pieces_with, size_of, bits_with, Few, Placed, EncodesHeader, Settable, no_tail, whole_of, EncodesTail, Spaced}
 
 -- ---- laws: what is encoded in one piece
 

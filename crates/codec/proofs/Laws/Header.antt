@@ -1,5 +1,5 @@
 -- The laws of specs/Header.antt.
-use Rattle.std.specs.Prelude.{ℕ, ◌+◌, ◌-◌, ◌^◌, ◌≤◌, ◌<◌, ◌≡◌, refl, List, ◌++◌, Bool, true, false, not, cond, length, eqb}
+use Rattle.std.specs.Prelude.{ℕ, ◌+◌, ◌-◌, ◌≤◌, ◌≡◌, refl, List, ◌++◌, Bool, true, false, not, cond, length, eqb}
 use Rattle.std.proofs.Math.Path.{sym, ap}
 use Rattle.std.proofs.Common.{◌∙◌, length-drop, drop-drop}
 use native.Mathlib.Omega.{arith}
@@ -7,7 +7,7 @@ use Rattle.std.proofs.Math.ListN.{drop}
 use Rattle.std.proofs.Math.Seq.{drop_at}
 use Rattle.std.proofs.lemmas.Bool.{not-true, not-false}
 use Rattle.bits.specs.Bits.{bits_at, get_bits, bits_of_nat, val}
-use Rattle.tetra_core.specs.BitBuffer.{good_window, remaining, moved}
+use Rattle.tetra_core.specs.BitBuffer.{good_window, remaining}
 use Rattle.bits.proofs.Laws.Values.{bits_of_nat-val}
 use Rattle.bits.proofs.Laws.Reads.{length_bits_at, bits_at_add, get_bits_lt}
 use Rattle.tetra_core.specs.Laws.Windows.{Good}
@@ -17,7 +17,7 @@ use Rattle.codec.specs.Reader.{Out, got, refused, next, field_at, Reader, parse}
 use Rattle.codec.proofs.Laws.Reader.{inside}
 use Rattle.codec.specs.Words.{parse_word}
 use Rattle.codec.proofs.Laws.Words.{parse-word, field-alone}
-use Rattle.codec.specs.Header.{within, answered, at_cursor, Word, Reads, part_out}
+use Rattle.codec.specs.Header.{within, Word, Reads, part_out}
 
 -- ---- laws: the bits of a good window
 

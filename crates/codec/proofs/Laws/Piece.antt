@@ -1,13 +1,12 @@
 -- The laws of specs/Piece.antt.
-use Rattle.std.specs.Prelude.{ℕ, ◌+◌, ◌*◌, ◌^◌, ◌≤◌, ◌<◌, ◌≡◌, refl, List, ◌∷◌, ◌++◌, Bool, length}
+use Rattle.std.specs.Prelude.{ℕ, ◌+◌, ◌*◌, ◌^◌, ◌≡◌, refl, List, ◌∷◌, ◌++◌, Bool, length}
 use Rattle.std.proofs.Math.Arith.{digits_lt}
 use Rattle.std.proofs.Common.{lit<, pow-add, length-append}
-use Rattle.bits.specs.Bits.{bits_of_nat}
 use Rattle.bits.proofs.Laws.Values.{length-bits_of_nat}
 use Rattle.codec.specs.Row.{Cell, cell, row_bits, RowIs}
 use Rattle.codec.proofs.Laws.Row.{join_bits}
 use Rattle.codec.specs.declared.piece.Piece.{Piece}
-use Rattle.codec.specs.Piece.{piece_bits, Holds, Puttable}
+use Rattle.codec.specs.Piece.{piece_bits, Holds}
 
 -- ---- laws
 

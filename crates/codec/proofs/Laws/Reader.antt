@@ -1,5 +1,5 @@
 -- The laws of specs/Reader.antt.
-use Rattle.std.specs.Prelude.{ℕ, ◌+◌, ◌-◌, ◌≤◌, ◌<◌, ◌≡◌, refl, List, ◌++◌, Bool, true, false, cond, length, take, drop, leb}
+use Rattle.std.specs.Prelude.{ℕ, ◌+◌, ◌-◌, ◌≤◌, ◌<◌, ◌≡◌, refl, List, ◌++◌, Bool, true, false, length, take, drop, leb}
 use Rattle.std.proofs.Common.{◌∙◌, append_assoc, arith, length-append, length-drop, length-take-le, take-add, take_at, drop_at, drop-drop, leb-true, leb-false, le-leb}
 use Rattle.std.proofs.Math.Nat.{sub_self}
 use Rattle.std.proofs.lemmas.Bool.{lt-leb}

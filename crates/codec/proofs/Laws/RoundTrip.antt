@@ -1,5 +1,5 @@
 -- The laws of specs/RoundTrip.antt.
-use Rattle.std.specs.Prelude.{ℕ, ◌+◌, ◌-◌, ◌*◌, ◌≤◌, ◌≡◌, refl, List, [], ◌∷◌, ◌++◌, Bool, true, false, cond, eqb, length}
+use Rattle.std.specs.Prelude.{ℕ, ◌+◌, ◌-◌, ◌*◌, ◌≤◌, ◌≡◌, refl, List, [], ◌∷◌, ◌++◌, Bool, true, false, eqb, length}
 use Rattle.std.proofs.Common.{ap, ◌∙◌, append_assoc, arith, add_assoc, eqb-true}
 use Rattle.bits.specs.Bits.{bits_at, put_bits}
 use Rattle.tetra_core.specs.BitBuffer.{remaining, moved}
@@ -8,14 +8,14 @@ use Rattle.bits.proofs.Laws.Writes.{length-put_bits, bits_at_put_bits, bits_at_a
 use Rattle.tetra_core.specs.Laws.Windows.{Good, good_test}
 use Rattle.tetra_core.specs.declared.bitbuffer.Cursor.{Cursor}
 use Rattle.tetra_core.specs.declared.refusal.Refusal.{Refusal}
-use Rattle.codec.specs.Reader.{Out, got, refused, Reader, done, refuse, field, here, choose, parse}
+use Rattle.codec.specs.Reader.{got, Reader, done, refuse, field, here, choose, parse}
 use Rattle.codec.specs.Words.{past}
 use Rattle.codec.proofs.Laws.Words.{past_is, field-alone}
 use Rattle.codec.specs.Header.{within, at_cursor}
 use Rattle.codec.specs.Write.{refusal_at, written_at}
 use Rattle.codec.proofs.Laws.Write.{free}
 use Rattle.codec.specs.Row.{Cell, cell, row_bits, RowFits}
-use Rattle.codec.specs.RoundTrip.{on_row, row_then, parse_row}
+use Rattle.codec.specs.RoundTrip.{row_then, parse_row}
 
 row_then_lem : (r : List Cell) (rest : List Bool) → row_bits r ++ rest ≡ row_then r rest
 unfolding row_bits

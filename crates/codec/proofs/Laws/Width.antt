@@ -1,7 +1,7 @@
 -- The laws of specs/Width.antt.
-use Rattle.std.specs.Prelude.{ℕ, ◌^◌, ◌<◌, ◌≡◌, ltb}
+use Rattle.std.specs.Prelude.{ℕ, ◌^◌, ◌<◌, ◌≡◌}
 use Rattle.std.proofs.Common.{ltb-true}
-use Rattle.tetra_core.specs.Refusal.{unless, passed}
+use Rattle.tetra_core.specs.Refusal.{passed}
 use Rattle.codec.specs.Width.{too_wide}
 
 -- ---- laws

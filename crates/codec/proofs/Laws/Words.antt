@@ -1,12 +1,12 @@
 -- The laws of specs/Words.antt.
-use Rattle.std.specs.Prelude.{ℕ, zero, suc, ◌+◌, ◌-◌, ◌/◌, ◌%◌, ◌^◌, ◌≤◌, ◌<◌, ◌≡◌, refl, List, [], ◌∷◌, ◌++◌, Bool, true, false, cond, length, take, drop, get_or, leb, eqb}
+use Rattle.std.specs.Prelude.{ℕ, zero, suc, ◌+◌, ◌-◌, ◌/◌, ◌%◌, ◌^◌, ◌≤◌, ◌<◌, ◌≡◌, refl, List, [], ◌∷◌, ◌++◌, Bool, true, false, length, take, drop, get_or, leb, eqb}
 use Rattle.std.proofs.Common.{sym, ap, ◌∙◌, append_assoc, arith, add_assoc, add-zero, div-one, mod-eq_of_lt, add-one, length-drop, drop_of_length-le, drop-cons, leb-true, leb-false, le-leb, eqb-true}
 use Rattle.std.proofs.Math.Nat.{pow-zero}
 use Rattle.std.proofs.Math.Dec.{when}
 use Rattle.std.proofs.lemmas.Bool.{lt-leb}
 use Rattle.bits.specs.Bits.{val, bits_of_nat}
 use Rattle.bits.proofs.Laws.Values.{length-bits_of_nat, val-bits_of_nat, bits_of_nat-add, bits-zero}
-use Rattle.codec.specs.Reader.{Out, got, refused, field_at, Reader, done, refuse, field, here, choose, parse}
+use Rattle.codec.specs.Reader.{got, refused, field_at, Reader, done, refuse, field, here, choose, parse}
 use Rattle.codec.proofs.Laws.Reader.{field-there, field-short, field-front}
 use Rattle.codec.specs.Words.{past, part, onward, parse_word, total, short_at, Starts}
 

@@ -1,13 +1,12 @@
 -- The laws of specs/Write.antt.
-use Rattle.std.specs.Prelude.{ℕ, zero, suc, ◌+◌, ◌≤◌, ◌≡◌, refl, List, [], ◌∷◌, Bool, true, false, length, leb}
+use Rattle.std.specs.Prelude.{ℕ, zero, suc, ◌≡◌, refl, List, [], ◌∷◌, Bool, true, false, length, leb}
 use Rattle.std.proofs.Common.{sym, ◌∙◌, arith, leb-true, le-leb}
 use Rattle.bits.specs.Bits.{put_bits}
-use Rattle.tetra_core.specs.BitBuffer.{good_window, remaining, moved, moves, bytes_after}
+use Rattle.tetra_core.specs.BitBuffer.{good_window, remaining, moved}
 use Rattle.tetra_core.specs.Refusal.{unless, first, first-none, passed}
-use Rattle.tetra_core.specs.Laws.Windows.{Good, good_facts, good_test, move_refused, move_done, bytes-refused, bytes-done}
+use Rattle.tetra_core.specs.Laws.Windows.{good_facts, good_test, move_refused, move_done, bytes-refused, bytes-done}
 use Rattle.tetra_core.specs.declared.bitbuffer.Cursor.{Cursor}
 use Rattle.tetra_core.specs.declared.bitbuffer.Outcome.TheVariants.{Done, Refused}
-use Rattle.tetra_core.specs.declared.bitbuffer.Moved.{Moved}
 use Rattle.codec.specs.Write.{refusal_at, write_at, written_at, Free}
 
 pub free : (len : ℕ) (c : Cursor) (j n : ℕ) → refusal_at len c j n ≡ 0 → Free len c j n

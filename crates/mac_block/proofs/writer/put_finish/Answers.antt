@@ -1,6 +1,7 @@
 use Prim.Native.Nat.{◌-◌, ◌/◌, ◌%◌}
 use mathlib.Core.Path.{refl, sym, ◌∙◌}
 use native.Mathlib.Omega.{arith}
+use borrow.Author.Rules.{rules}
 use Rattle.block_rules.specs.Writer.{finish_bits, writer_at, finished, finish_to}
 use Rattle.block_rules.specs.Demand3.{IsBlock}
 use Rattle.block_rules.proofs.Laws.Refusals.{Placed, finish-free, finish_accepted}
@@ -31,7 +32,7 @@ returns c =
     let a = c.args in
     let f = free (goal.at.returns c).Else-number-ne0 in
     let e = put-part a.block.now (a.bit / 8) (a.bit % 8) a.bit (finish_bits (a.bits - a.bit))
-    (λ i. omega (arith, c.slice_known-1.given i)) (omega arith) (omega (arith, length-finish (a.bits - a.bit))) c.put_closing.ensures in
+    (λ i. search rules) (omega arith) (omega (arith, length-finish (a.bits - a.bit))) c.put_closing.ensures in
     rw (finish_accepted _ (writer_at _ _) f.0 f.1) (refl, e)
 
 pub slice_bounds-put_closing-count : goal.slice_bounds-put_closing-count
