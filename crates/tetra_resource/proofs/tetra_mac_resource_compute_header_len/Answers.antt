@@ -1,4 +1,5 @@
-use mathlib.Core.Path.{sym, ◌∙◌}
+use mathlib.Core.Bool.{not}
+use mathlib.Core.Path.{sym, ap, ◌∙◌}
 use Rattle.tetra_mac.specs.Laws.Reply.{count_no_room, count_unknown, count-replied}
 use Rattle.tetra_resource.specs.Laws.MacResource.{mac_resource_long}
 use Rattle.tetra_resource.proofs.tetra_mac_resource_compute_header_len.Goals as goal
@@ -8,14 +9,14 @@ mac_resource_value-h-requires c = mac_resource_long _ (sym c.mac_resource_known.
 
 pub returns-in-Len : goal.returns-in-Len
 returns-in-Len c =
-    count-replied _ _ _ _ c.mac_resource_known.ensures c.if-not-mac_resource_known.false-raw c.if-out-lt1.false c.mac_resource_value-h.ensures (rw (← c.compute_header_len.ensures, c.in-Len.is))
+    count-replied _ _ _ _ c.mac_resource_known.ensures (ap not c.if-not-mac_resource_known.false) c.if-out-lt1.false c.mac_resource_value-h.ensures (rw (← c.compute_header_len.ensures, c.in-Len.is))
 
 pub returns-in-Refused : goal.returns-in-Refused
 returns-in-Refused c =
-    count-replied _ _ _ _ c.mac_resource_known.ensures c.if-not-mac_resource_known.false-raw c.if-out-lt1.false c.mac_resource_value-h.ensures (rw (← c.compute_header_len.ensures, c.in-Refused.is))
+    count-replied _ _ _ _ c.mac_resource_known.ensures (ap not c.if-not-mac_resource_known.false) c.if-out-lt1.false c.mac_resource_value-h.ensures (rw (← c.compute_header_len.ensures, c.in-Refused.is))
 
 pub returns-then-out-lt1 : goal.returns-then-out-lt1
 returns-then-out-lt1 c = count_no_room _ _ _ _ c.if-out-lt1.true
 
 pub returns-then-not-mac_resource_known : goal.returns-then-not-mac_resource_known
-returns-then-not-mac_resource_known c = count_unknown _ _ _ _ c.mac_resource_known.ensures c.if-not-mac_resource_known.true-raw
+returns-then-not-mac_resource_known c = count_unknown _ _ _ _ c.mac_resource_known.ensures (ap not c.if-not-mac_resource_known.true)

@@ -1,4 +1,5 @@
-use mathlib.Core.Path.{sym, ◌∙◌}
+use mathlib.Core.Bool.{not}
+use mathlib.Core.Path.{sym, ap, ◌∙◌}
 use native.Mathlib.Omega.{arith}
 use lib.ListN.{length-set}
 use Rattle.tetra_mac.specs.Laws.Reply.{count_no_room, count_unknown, count-replied}
@@ -10,17 +11,17 @@ mac_resource_value-h-requires c = mac_resource_long _ (sym c.mac_resource_known.
 
 pub returns-in-Counted : goal.returns-in-Counted
 returns-in-Counted c =
-    count-replied _ _ _ _ c.mac_resource_known.ensures c.if-not-mac_resource_known.false-raw c.if-out-lt3.false c.mac_resource_value-h.ensures (rw (← c.update_len_and_fill_ind.ensures, c.in-Counted.is, c.bit.ensures.0))
+    count-replied _ _ _ _ c.mac_resource_known.ensures (ap not c.if-not-mac_resource_known.false) c.if-out-lt3.false c.mac_resource_value-h.ensures (rw (← c.update_len_and_fill_ind.ensures, c.in-Counted.is, c.bit.ensures.0))
 
 pub returns-in-Refused : goal.returns-in-Refused
 returns-in-Refused c =
-    count-replied _ _ _ _ c.mac_resource_known.ensures c.if-not-mac_resource_known.false-raw c.if-out-lt3.false c.mac_resource_value-h.ensures (rw (← c.update_len_and_fill_ind.ensures, c.in-Refused.is))
+    count-replied _ _ _ _ c.mac_resource_known.ensures (ap not c.if-not-mac_resource_known.false) c.if-out-lt3.false c.mac_resource_value-h.ensures (rw (← c.update_len_and_fill_ind.ensures, c.in-Refused.is))
 
 pub returns-then-out-lt3 : goal.returns-then-out-lt3
 returns-then-out-lt3 c = count_no_room _ _ _ _ c.if-out-lt3.true
 
 pub returns-then-not-mac_resource_known : goal.returns-then-not-mac_resource_known
-returns-then-not-mac_resource_known c = count_unknown _ _ _ _ c.mac_resource_known.ensures c.if-not-mac_resource_known.true-raw
+returns-then-not-mac_resource_known c = count_unknown _ _ _ _ c.mac_resource_known.ensures (ap not c.if-not-mac_resource_known.true)
 
 pub bounds-out-1 : goal.bounds-out-1
 bounds-out-1 c = simp length-set (omega arith)

@@ -1,4 +1,5 @@
-use mathlib.Core.Path.{refl, sym, ◌∙◌}
+use mathlib.Core.Bool.{not}
+use mathlib.Core.Path.{refl, sym, ap, ◌∙◌}
 use Prim.Native.Nat.{◌≤◌}
 use lib.ListN.{length}
 use Rattle.codec.proofs.Laws.Encoded.{header-writable, header-written}
@@ -25,13 +26,13 @@ returns c =
     let h = mac_resource_value ws in
     let x = header-written c.encoded_alone-e.ensures h.length_ind h.fill_bits (λ z. (told h z).small) _ _
     (rw (c.first_fields-f.ensures, own_length ws, own_fill ws) at c.write_header-done.ensures) in
-    record_replied _ _ _ _ _ c.mac_resource_known.ensures c.if-not-mac_resource_known.false-raw c.if-out-lt1.false refl x c.moved.ensures
+    record_replied _ _ _ _ _ c.mac_resource_known.ensures (ap not c.if-not-mac_resource_known.false) c.if-out-lt1.false refl x c.moved.ensures
 
 pub returns-then-out-lt1 : goal.returns-then-out-lt1
 returns-then-out-lt1 c = write_no_room _ _ _ _ _ c.if-out-lt1.true
 
 pub returns-then-not-mac_resource_known : goal.returns-then-not-mac_resource_known
-returns-then-not-mac_resource_known c = record_unknown _ _ _ _ _ c.mac_resource_known.ensures c.if-not-mac_resource_known.true-raw
+returns-then-not-mac_resource_known c = record_unknown _ _ _ _ _ c.mac_resource_known.ensures (ap not c.if-not-mac_resource_known.true)
 
 pub first_fields-f-requires : goal.first_fields-f-requires
 first_fields-f-requires c = long c

@@ -1,4 +1,5 @@
-use mathlib.Core.Path.{sym, ◌∙◌}
+use mathlib.Core.Bool.{not}
+use mathlib.Core.Path.{sym, ap, ◌∙◌}
 use Rattle.tetra_mac.specs.Laws.ChannelAllocation.{channel_allocation-long}
 use Rattle.tetra_mac.specs.Laws.Reply.{count_no_room, count_unknown, count-replied}
 use Rattle.tetra_mac.proofs.allocation.tetra_channel_allocation_len.Goals as goal
@@ -9,14 +10,14 @@ channel_allocation_value-e-requires c =
 
 pub returns-in-Len : goal.returns-in-Len
 returns-in-Len c =
-    count-replied _ _ _ _ c.channel_allocation_known.ensures c.if-not-channel_allocation_known.false-raw c.if-out-lt1.false c.channel_allocation_value-e.ensures (rw (← c.compute_len.ensures, c.in-Len.is))
+    count-replied _ _ _ _ c.channel_allocation_known.ensures (ap not c.if-not-channel_allocation_known.false) c.if-out-lt1.false c.channel_allocation_value-e.ensures (rw (← c.compute_len.ensures, c.in-Len.is))
 
 pub returns-in-Refused : goal.returns-in-Refused
 returns-in-Refused c =
-    count-replied _ _ _ _ c.channel_allocation_known.ensures c.if-not-channel_allocation_known.false-raw c.if-out-lt1.false c.channel_allocation_value-e.ensures (rw (← c.compute_len.ensures, c.in-Refused.is))
+    count-replied _ _ _ _ c.channel_allocation_known.ensures (ap not c.if-not-channel_allocation_known.false) c.if-out-lt1.false c.channel_allocation_value-e.ensures (rw (← c.compute_len.ensures, c.in-Refused.is))
 
 pub returns-then-out-lt1 : goal.returns-then-out-lt1
 returns-then-out-lt1 c = count_no_room _ _ _ _ c.if-out-lt1.true
 
 pub returns-then-not-channel_allocation_known : goal.returns-then-not-channel_allocation_known
-returns-then-not-channel_allocation_known c = count_unknown _ _ _ _ c.channel_allocation_known.ensures c.if-not-channel_allocation_known.true-raw
+returns-then-not-channel_allocation_known c = count_unknown _ _ _ _ c.channel_allocation_known.ensures (ap not c.if-not-channel_allocation_known.true)

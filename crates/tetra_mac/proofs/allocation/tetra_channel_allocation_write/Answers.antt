@@ -1,4 +1,5 @@
-use mathlib.Core.Path.{sym, ◌∙◌}
+use mathlib.Core.Bool.{not}
+use mathlib.Core.Path.{sym, ap, ◌∙◌}
 use Rattle.tetra_mac.specs.Laws.Reply.{write_no_room, record_unknown, record_replied}
 use Rattle.tetra_mac.specs.Laws.ChannelAllocation.{channel_allocation-long}
 use Rattle.tetra_mac.proofs.allocation.tetra_channel_allocation_write.Goals as goal
@@ -8,10 +9,10 @@ channel_allocation_value-e-requires c = channel_allocation-long _ (sym c.channel
 
 pub returns : goal.returns
 returns c =
-    record_replied _ _ _ _ _ c.channel_allocation_known.ensures c.if-not-channel_allocation_known.false-raw c.if-out-lt1.false c.channel_allocation_value-e.ensures c.to_bitbuf-done.ensures c.moved.ensures
+    record_replied _ _ _ _ _ c.channel_allocation_known.ensures (ap not c.if-not-channel_allocation_known.false) c.if-out-lt1.false c.channel_allocation_value-e.ensures c.to_bitbuf-done.ensures c.moved.ensures
 
 pub returns-then-out-lt1 : goal.returns-then-out-lt1
 returns-then-out-lt1 c = write_no_room _ _ _ _ _ c.if-out-lt1.true
 
 pub returns-then-not-channel_allocation_known : goal.returns-then-not-channel_allocation_known
-returns-then-not-channel_allocation_known c = record_unknown _ _ _ _ _ c.channel_allocation_known.ensures c.if-not-channel_allocation_known.true-raw
+returns-then-not-channel_allocation_known c = record_unknown _ _ _ _ _ c.channel_allocation_known.ensures (ap not c.if-not-channel_allocation_known.true)
