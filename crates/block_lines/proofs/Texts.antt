@@ -6,7 +6,7 @@ use Prim.Native.Nat.{ℕ, ◌+◌, ◌*◌, ◌≤◌}
 use native.Mathlib.Omega.{arith}
 use lib.ListN.{length, length-map}
 use lib.Seq.{length-take-le}
-use Rattle.block_lines.specs.Counts.{IsPrefixLen}
+use Rattle.text.specs.Counts.{IsPrefixLen}
 use Rattle.text.specs.Put.{Put, AtStart}
 use Rattle.text.specs.Laws.Puts.{then, wider, reads, put_nothing, at-start, start-counts}
 use Rattle.mac_block.specs.declared.reader.BlockEntry.{BlockEntry}

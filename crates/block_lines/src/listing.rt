@@ -1,6 +1,6 @@
 // The listing of a block: its lines and the rest, put into lent bytes from a place on.
 ghost use Rattle.std.specs.Prelude.{length};
-ghost use Rattle.block_lines.specs.Counts.{IsPrefixLen};
+ghost use Rattle.text.specs.Counts.{IsPrefixLen};
 ghost use Rattle.text.specs.Put.{Put, AtStart};
 ghost use Rattle.block_lines.specs.Listing.{rest_text, block_text, no_block_text, listing_text};
 ghost use Rattle.block_lines.specs.Most.{rest_most, listing_most};

@@ -31,7 +31,7 @@ fn list_named<R: Print + Eprint + Files>(rt: &R, name: &str) -> io::Result<()> {
     println!(rt; "{name}")?;
     let mut input = [0u8; MOST_BYTES];
     let got = match File::open(rt, name) {
-        Ok(mut opened) => file::read_file(&mut opened, &mut input)?,
+        Ok(mut opened) => file::read_file(&mut opened, &mut input),
         Err(e) => return eprintln!(rt; "{name}: {e}"),
     };
     let mut out = [0u8; MOST_TEXT];

@@ -488,7 +488,7 @@ enum Page {
 
 fn next_page<R: Read>(rt: &impl Print, from: &mut R, counts: &mut [u64; 641]) -> io::Result<Page> {
     let mut room = [0u8; 16384];
-    let n = input::read_full(from, &mut room)?;
+    let n = input::read_full(from, &mut room);
     if n == 0 {
         return Ok(Page::Nothing);
     }

@@ -1,3 +1,4 @@
+pub mod Counts
 pub mod Put
 pub mod Ascii
 pub mod Decimal

