@@ -2,9 +2,9 @@
 --           within, wider, reads          another bound; the same text, said otherwise
 --           sized, whole                  as many bytes as before; where there is room, the text at its place and all else as it was
 --           at-start, start-counts        the same at the start of the bytes
---           put-one, put-none, put_nothing, put_more, put-all   a byte, none, and the bytes of a word one after the other
+--           put_one, put-none, put_nothing, put_more, put_all  a byte, none, and the bytes of a word one after the other
 -- Decimals  decimal-one, decimal_more     a digit, or the digits of the tenth and then the last one
 --           decimal-short, decimal-value  how many digits there are, and that they say the number
---           number-one, number-more       the same of digits that are put
+--           number-one, number_more       the same of digits that are put
 pub mod Puts
 pub mod Decimals
