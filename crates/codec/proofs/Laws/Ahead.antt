@@ -17,8 +17,6 @@ use Rattle.codec.proofs.Laws.Header.{read, word-there, length_left}
 use Rattle.codec.specs.declared.Ahead.{Ahead}
 use Rattle.codec.specs.Ahead.{next_bits, Held, ReadsNext, Ready, Onward, advanced, ending_in}
 
--- ---- laws
-
 -- the first and the last bits of a word
 word-front : {h : List Bool} {o v : ℕ} (m n : ℕ) → Word h o (m + n) v → (drop o h ≡ bits_of_nat m (v / 2 ^ n) ++ drop (o + m) h) × (drop (o + m) h ≡ bits_of_nat n v ++ drop (o + m + n) h)
 word-front {h} {o} {v} m n w =

@@ -7,8 +7,6 @@ use Rattle.bits.specs.Bits.{digit}
 use Rattle.codec.proofs.Laws.AllBelow.{numbers}
 use Rattle.codec.specs.Cases.{flag, Unmatched}
 
--- ---- laws
-
 pub flag-back : (b : Bool) → flag (digit b) ≡ b
 flag-back true = refl
 flag-back false = refl

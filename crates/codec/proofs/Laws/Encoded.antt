@@ -17,7 +17,7 @@ use Rattle.codec.specs.declared.encoded.Tail.{Tail}
 use Rattle.codec.specs.declared.encoded.EncodedHeader.{EncodedHeader}
 use Rattle.codec.specs.Encoded.{pieces_bits, Sound, Encodes, EncodesOne, set_in, front_with, pieces_with, size_of, bits_with, Few, Placed, EncodesHeader, Settable, no_tail, whole_of, EncodesTail, Spaced}
 
--- ---- laws: what is encoded in one piece
+-- ---- what is encoded in one piece
 
 -- what is refused, and what is a piece
 pub refused-encodes : {j k n : ℕ} {xs : List Bool} → k ≡ j → (k ≡ 0 → ⊥) → n ≤ 63 → EncodesOne j n xs (record { number = k; piece = record { value = 0; bits = n } })
@@ -50,7 +50,7 @@ pub encoded_written : (s : List ℕ) (c : Cursor) {j n k : ℕ} {xs : List Bool}
 encoded_written s c x y = let w = write_same s c _ _ _ _ x.number x.bits in
     (y.0 ∙ w.0, y.1 ∙ w.1)
 
--- ---- laws: length and fill flag in their places
+-- ---- length and fill flag in their places
 
 -- the number of a piece
 value-is : {xs : List Bool} {n : ℕ} {p : Piece} → Holds xs n p → p.value ≡ val xs
@@ -108,7 +108,7 @@ module _ {at : Places} {xs : ℕ → Bool → List Bool} (s : Spaced at xs) {n :
       let v : p.value + digit f * 2 ^ (p.bits - at.fill) + l * 2 ^ (p.bits - at.length) ≡ (set_in at p l f).value = omega arith in
       rw (s.is l f, ← v, ← x, ← y, regroup s.before (bits_of_nat 1 (digit f)) s.between (bits_of_nat 6 l ++ s.behind), h.size) b
 
--- ---- laws: a header
+-- ---- a header
 
 -- of its front, its rest and its tail
 module _ {at : Places} {xs : ℕ → Bool → List Bool} {ys ts : List Bool} {i j m n r : ℕ} {a b : Encoded} {t : Tail} (s : Spaced at xs)

@@ -19,7 +19,7 @@ use Rattle.codec.specs.Words.{parse_word}
 use Rattle.codec.proofs.Laws.Words.{parse-word, field-alone}
 use Rattle.codec.specs.Header.{within, Word, Reads, part_out}
 
--- ---- laws: the bits of a good window
+-- ---- the bits of a good window
 
 module _ (s : List ℕ) (c : Cursor) (g : Good (length s) c) where
   pub length-within : length (within s c) ≡ remaining c
@@ -46,7 +46,7 @@ module _ (s : List ℕ) (c : Cursor) (g : Good (length s) c) where
       let back : bits_of_nat n (val b) ≡ b = rw lb at (bits_of_nat-val b) in
       record { bits = rw (first, rest, back); small = get_bits_lt s (c.pos + o) n (omega (arith, g)) }
 
--- ---- laws: a part of a header
+-- ---- a part of a header
 
 -- what follows a part
 pub next-part : {A B : Type 0} (r : Refusal) (x : Out A) (k : A → List Bool → ℕ → Out B) → next (part_out r x) k ≡ part_out r (next x k)
@@ -69,7 +69,7 @@ pub read : {A R : Type 0} {view : List Bool → R → Out A} {p : Reader A} {h :
     → Reads view p h o x → x ≡ r → parse p (drop o h) o ≡ view h r
 read {view = view} {h = h} p e = sym p.means ∙ ap (view h) e
 
--- ---- laws: a public call, whose first line is `if !good_window(..)` with the answer t
+-- ---- a public call, whose first line is `if !good_window(..)` with the answer t
 
 pub bad-seen : (len : ℕ) (c : Cursor) {t : Bool} → t ≡ good_window len c → not t ≡ true → good_window len c ≡ false
 bad-seen len c e n = sym e ∙ not-true _ n

@@ -8,8 +8,6 @@ use Rattle.codec.proofs.Laws.Row.{join_bits}
 use Rattle.codec.specs.declared.piece.Piece.{Piece}
 use Rattle.codec.specs.Piece.{piece_bits, Holds}
 
--- ---- laws
-
 -- a number that stands for a row
 pub row_holds : {r : List Cell} {n x : ℕ} → RowIs r n x → Holds (row_bits r) n (record { value = x; bits = n })
 row_holds e = record { is = e.bits; size = refl; small = e.small }

@@ -7,8 +7,6 @@ use Rattle.bits.specs.Bits.{bits_of_nat}
 use Rattle.bits.proofs.Laws.Values.{length-bits_of_nat, bits_of_nat-add, bits_of_nat-mod, bits-zero}
 use Rattle.codec.specs.Row.{Cell, cell, size, row_bits, glue, row_word, RowFits, RowIs}
 
--- ---- laws
-
 pub length_row : (r : List Cell) → length (row_bits r) ≡ size r
 unfolding row_bits
 length_row [] = refl
