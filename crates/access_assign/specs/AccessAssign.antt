@@ -1,6 +1,6 @@
 -- ACCESS-ASSIGN (document 01): "Header 2, field one 6, field two 6. Header 0: two access fields .. Headers 1 and 2: downlink usage, access
 -- field. Header 3: downlink usage, uplink usage."
-use Rattle.std.specs.Prelude.{ℕ, ◌+◌, ◌≡◌, List, [], ◌∷◌, Bool, false, drop, eqb}
+use Rattle.std.specs.Prelude.{ℕ, ◌+◌, ◌≡◌, List, [], ◌∷◌, Bool, false, drop, eqb, Err, Ok}
 use Rattle.tetra_core.specs.Refusal.{first}
 use Rattle.tetra_core.specs.declared.bitbuffer.Cursor.{Cursor}
 use Rattle.tetra_core.specs.declared.bitbuffer.Moved.{Moved}
@@ -15,7 +15,6 @@ use Rattle.access_assign.specs.declared.structs.base_frame_length.BaseFrameLengt
 use Rattle.access_assign.specs.declared.structs.access_field.AccessField.{AccessField}
 use Rattle.access_assign.specs.declared.access_assign.AccessAssign.{AccessAssign}
 use Rattle.access_assign.specs.declared.access_assign.AccessAssign.TheVariants.{DownlinkCommonControlUplinkCommonOnly, DownlinkDefinedUplinkCommonAndAssigned, DownlinkDefinedUplinkAssignedOnly, DownlinkDefinedUplinkDefined}
-use Rattle.access_assign.specs.declared.access_assign.AccessAssignAnswer.{AccessAssignAnswer}
 use Rattle.access_assign.specs.declared.access_assign.AccessAssignRead.{AccessAssignRead}
 use Rattle.access_assign.specs.declared.access_assign.AccessAssignPart.{AccessAssignPart}
 
@@ -51,7 +50,7 @@ abbrev pub Says : ℕ → ℕ → ℕ → ℕ → AccessAssignPart → Type 0
 Says header one two second r = (rest : List Bool) (n : ℕ) → part_out r.refusal (got r.assign rest n) ≡ parse (access_assign_of header one two second) rest n
 
 unfoldable pub access_assign_at : List ℕ → Cursor → AccessAssignRead
-access_assign_at = at_cursor read_access_assign (λ c a. record { cursor = c; answer = a }) AccessAssignAnswer.Read AccessAssignAnswer.Refused
+access_assign_at = at_cursor read_access_assign (λ c a. record { cursor = c; answer = a }) Ok Err
 
 -- ---- what is written
 

@@ -1,13 +1,9 @@
 -- An access field (document 01): "code 2, base frame length 4, as `into_raw`; all 64 values read". It is one field of 6 bits.
-use Rattle.std.specs.Prelude.{ℕ, ◌+◌, ◌*◌, ◌/◌, ◌%◌, List, [], ◌∷◌, cond, get_or, leb}
+use Rattle.std.specs.Prelude.{ℕ, ◌+◌, ◌*◌, ◌/◌, ◌%◌, List, [], ◌∷◌, cond, get_or, leb, None, Option, Some}
 use Rattle.access_assign.specs.declared.enums.access_code.AccessCode.{AccessCode}
 use Rattle.access_assign.specs.declared.enums.access_code.AccessCode.TheVariants.{AccessCodeA, AccessCodeB, AccessCodeC, AccessCodeD}
-use Rattle.access_assign.specs.declared.enums.access_code.AccessCodeCase.{AccessCodeCase}
-use Rattle.access_assign.specs.declared.enums.access_code.AccessCodeCase.TheVariants as AccessCodeCase'
 use Rattle.access_assign.specs.declared.structs.base_frame_length.BaseFrameLength.{BaseFrameLength}
 use Rattle.access_assign.specs.declared.structs.base_frame_length.BaseFrameLength.TheVariants.{ReservedSubslot, CLCHSubslot, OngoingFrame, Subslots1, Subslots2, Subslots3, Subslots4, Subslots5, Subslots6, Subslots8, Subslots10, Subslots12, Subslots16, Subslots20, Subslots24, Subslots32}
-use Rattle.access_assign.specs.declared.structs.base_frame_length.BaseFrameLengthCase.{BaseFrameLengthCase}
-use Rattle.access_assign.specs.declared.structs.base_frame_length.BaseFrameLengthCase.TheVariants as BaseFrameLengthCase'
 use Rattle.access_assign.specs.declared.structs.access_field.AccessField.{AccessField}
 
 -- ---- the number of each case
@@ -27,8 +23,8 @@ unfoldable pub access_code_of : ℕ → AccessCode
 access_code_of v = get_or access_codes (v % 4) AccessCodeD
 
 -- of a number, where it is one of 2 bits
-abbrev pub access_code_case : ℕ → AccessCodeCase
-access_code_case v = cond (leb v 3) (AccessCodeCase'.Case (access_code_of v)) AccessCodeCase'.Nothing
+abbrev pub access_code_case : ℕ → Option AccessCode
+access_code_case v = cond (leb v 3) (Some (access_code_of v)) None
 
 abbrev pub base_frame_length_number : BaseFrameLength → ℕ
 base_frame_length_number ReservedSubslot = 0
@@ -73,8 +69,8 @@ unfoldable pub base_frame_length_of : ℕ → BaseFrameLength
 base_frame_length_of v = get_or base_frame_lengths (v % 16) Subslots32
 
 -- of a number, where it is one of 4 bits
-abbrev pub base_frame_length_case : ℕ → BaseFrameLengthCase
-base_frame_length_case v = cond (leb v 15) (BaseFrameLengthCase'.Case (base_frame_length_of v)) BaseFrameLengthCase'.Nothing
+abbrev pub base_frame_length_case : ℕ → Option BaseFrameLength
+base_frame_length_case v = cond (leb v 15) (Some (base_frame_length_of v)) None
 
 -- ---- the field
 

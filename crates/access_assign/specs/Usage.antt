@@ -1,16 +1,10 @@
 -- Usage markers (document 01): "Downlink 0 to 3 are names, 4 to 63 traffic. Uplink 0 is unallocated, 1 to 3 refused, 4 to 63 traffic."
-use Rattle.std.specs.Prelude.{ℕ, List, [], ◌∷◌, Bool, true, false, cond, ◌||◌, get_or, eqb, leb}
+use Rattle.std.specs.Prelude.{ℕ, List, [], ◌∷◌, Bool, true, false, cond, ◌||◌, get_or, eqb, leb, None, Option, Some}
 use Rattle.tetra_core.specs.Refusal.{unless, first}
-use Rattle.access_assign.specs.declared.enums.TrafficChannel.{TrafficChannel}
-use Rattle.access_assign.specs.declared.enums.TrafficChannel.TheVariants as Channel'
 use Rattle.access_assign.specs.declared.enums.access_assign_dl_usage.AccessAssignDlUsage.{AccessAssignDlUsage}
 use Rattle.access_assign.specs.declared.enums.access_assign_dl_usage.AccessAssignDlUsage.TheVariants as Dl'
 use Rattle.access_assign.specs.declared.enums.access_assign_ul_usage.AccessAssignUlUsage.{AccessAssignUlUsage}
 use Rattle.access_assign.specs.declared.enums.access_assign_ul_usage.AccessAssignUlUsage.TheVariants as Ul'
-use Rattle.access_assign.specs.declared.enums.access_assign_ul_usage.UplinkUsage.{UplinkUsage}
-use Rattle.access_assign.specs.declared.enums.access_assign_ul_usage.UplinkUsage.TheVariants as Usage'
-use Rattle.access_assign.specs.declared.enums.access_assign_ul_usage.UplinkMarker.{UplinkMarker}
-use Rattle.access_assign.specs.declared.enums.access_assign_ul_usage.UplinkMarker.TheVariants as Marker'
 
 -- "value wider than its field" before "traffic below 4"
 unfoldable pub traffic_refusal : ℕ → ℕ
@@ -46,26 +40,26 @@ dl_is_traffic Dl'.CommonControl = false
 dl_is_traffic Dl'.CommonAndAssigned = false
 dl_is_traffic (Dl'.Traffic n) = true
 
-abbrev pub dl_channel : AccessAssignDlUsage → TrafficChannel
-dl_channel Dl'.Unallocated = Channel'.Nothing
-dl_channel Dl'.AssignedControl = Channel'.Nothing
-dl_channel Dl'.CommonControl = Channel'.Nothing
-dl_channel Dl'.CommonAndAssigned = Channel'.Nothing
-dl_channel (Dl'.Traffic n) = Channel'.Channel n
+abbrev pub dl_channel : AccessAssignDlUsage → Option ℕ
+dl_channel Dl'.Unallocated = None
+dl_channel Dl'.AssignedControl = None
+dl_channel Dl'.CommonControl = None
+dl_channel Dl'.CommonAndAssigned = None
+dl_channel (Dl'.Traffic n) = Some n
 
 -- ---- uplink
 
-abbrev pub ul_marker : AccessAssignUlUsage → UplinkMarker
-ul_marker Ul'.CommonOnly = Marker'.Nothing
-ul_marker Ul'.CommonAndAssigned = Marker'.Nothing
-ul_marker Ul'.AssignedOnly = Marker'.Nothing
-ul_marker Ul'.Unallocated = Marker'.Marker 0
-ul_marker (Ul'.Traffic n) = Marker'.Marker n
+abbrev pub ul_marker : AccessAssignUlUsage → Option ℕ
+ul_marker Ul'.CommonOnly = None
+ul_marker Ul'.CommonAndAssigned = None
+ul_marker Ul'.AssignedOnly = None
+ul_marker Ul'.Unallocated = Some 0
+ul_marker (Ul'.Traffic n) = Some n
 
 -- the number that stands in the field; nothing without a marker is written
-abbrev pub marker_number : UplinkMarker → ℕ
-marker_number (Marker'.Marker n) = n
-marker_number Marker'.Nothing = 0
+abbrev pub marker_number : Option ℕ → ℕ
+marker_number (Some n) = n
+marker_number None = 0
 
 -- a number that marks a usage: all but 1 to 3
 abbrev pub ul_marks : ℕ → Bool
@@ -75,8 +69,8 @@ ul_marks v = eqb v 0 || leb 4 v
 unfoldable pub ul_usage_of : ℕ → AccessAssignUlUsage
 ul_usage_of v = cond (eqb v 0) Ul'.Unallocated (Ul'.Traffic v)
 
-unfoldable pub ul_usage : ℕ → UplinkUsage
-ul_usage v = cond (ul_marks v) (Usage'.Usage (ul_usage_of v)) Usage'.Nothing
+unfoldable pub ul_usage : ℕ → Option AccessAssignUlUsage
+ul_usage v = cond (ul_marks v) (Some (ul_usage_of v)) None
 
 -- "uplink marker 1 to 3 or one without code; traffic below 4"
 abbrev pub ul_refusal : AccessAssignUlUsage → ℕ
@@ -93,9 +87,9 @@ ul_is_traffic Ul'.AssignedOnly = false
 ul_is_traffic Ul'.Unallocated = false
 ul_is_traffic (Ul'.Traffic n) = true
 
-abbrev pub ul_channel : AccessAssignUlUsage → TrafficChannel
-ul_channel Ul'.CommonOnly = Channel'.Nothing
-ul_channel Ul'.CommonAndAssigned = Channel'.Nothing
-ul_channel Ul'.AssignedOnly = Channel'.Nothing
-ul_channel Ul'.Unallocated = Channel'.Nothing
-ul_channel (Ul'.Traffic n) = Channel'.Channel n
+abbrev pub ul_channel : AccessAssignUlUsage → Option ℕ
+ul_channel Ul'.CommonOnly = None
+ul_channel Ul'.CommonAndAssigned = None
+ul_channel Ul'.AssignedOnly = None
+ul_channel Ul'.Unallocated = None
+ul_channel (Ul'.Traffic n) = Some n

@@ -6,7 +6,7 @@ ghost use Rattle.codec.specs.Encoded.{EncodesOne};
 ghost use Rattle.access_assign.specs.AccessAssign.{assign_size, default_access_assign, is_dl_traffic, Says, read_access_assign, access_assign_out, access_assign_at, header_number, field_one, field_two, access_assign_refusal, access_assign_row, access_assign_write, access_assign_written};
 
 use crate::enums::access_assign_dl_usage::AccessAssignDlUsage;
-use crate::enums::access_assign_ul_usage::{AccessAssignUlUsage, UplinkMarker, UplinkUsage};
+use crate::enums::access_assign_ul_usage::AccessAssignUlUsage;
 use crate::enums::access_code::AccessCode;
 use crate::enums::{access_assign_dl_usage as dl_usage, access_assign_ul_usage as ul_usage};
 use crate::structs::access_field;
@@ -55,18 +55,11 @@ pub enum AccessAssign {
     },
 }
 
-// An ACCESS-ASSIGN, or why there is none.
-#[derive(Clone, Copy)]
-pub enum AccessAssignAnswer {
-    Read(AccessAssign),
-    Refused(Refusal),
-}
-
 // What a read answers, and the cursor after it.
 #[derive(Clone, Copy)]
 pub struct AccessAssignRead {
     pub cursor: Cursor,
-    pub answer: AccessAssignAnswer,
+    pub answer: Result<AccessAssign, Refusal>,
 }
 
 // An ACCESS-ASSIGN as a part of a header: why it is not read, or number 0.
@@ -156,13 +149,13 @@ fn access_assign_of(header: u64, one: u64, two: u64, second: usize) -> AccessAss
             access_field: access_field::from_raw(two),
         }),
         _ => match ul_usage::from_usage_marker(two as u8) {
-            UplinkUsage::Usage(uplink_usage_marker) => {
+            Some(uplink_usage_marker) => {
                 assign_read(AccessAssign::DownlinkDefinedUplinkDefined {
                     downlink_usage_marker: dl_usage::from_usage_marker(one as u8),
                     uplink_usage_marker,
                 })
             }
-            UplinkUsage::Nothing => refused(Refusal {
+            None => refused(Refusal {
                 number: refusal::USAGE_MARKER,
                 offset: second,
             }),
@@ -192,7 +185,7 @@ pub fn from_bitbuf(s: &[u8], c: Cursor) -> AccessAssignRead
     if !bitbuffer::good_window(s.len(), c) {
         return AccessAssignRead {
             cursor: c,
-            answer: AccessAssignAnswer::Refused(Refusal {
+            answer: Err(Refusal {
                 number: refusal::BAD_WINDOW,
                 offset: 0,
             }),
@@ -204,12 +197,12 @@ pub fn from_bitbuf(s: &[u8], c: Cursor) -> AccessAssignRead
     if refusal.number != 0 {
         return AccessAssignRead {
             cursor: c,
-            answer: AccessAssignAnswer::Refused(refusal),
+            answer: Err(refusal),
         };
     }
     AccessAssignRead {
         cursor: codec::moved_by(c, SIZE),
-        answer: AccessAssignAnswer::Read(assign),
+        answer: Ok(assign),
     }
 }
 
@@ -312,9 +305,9 @@ fn field_two(a: AccessAssign) -> u64
             downlink_usage_marker: _,
             uplink_usage_marker,
         } => match ul_usage::to_usage_marker(uplink_usage_marker) {
-            UplinkMarker::Marker(marker) => marker as u64,
+            Some(marker) => marker as u64,
             // refused before it is written
-            UplinkMarker::Nothing => 0,
+            None => 0,
         },
     }
 }

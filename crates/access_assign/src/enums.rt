@@ -8,13 +8,6 @@ pub mod access_assign_dl_usage;
 pub mod access_assign_ul_usage;
 pub mod access_code;
 
-// The traffic channel of a usage, or none.
-#[derive(Clone, Copy)]
-pub enum TrafficChannel {
-    Channel(u8),
-    Nothing,
-}
-
 // Why a traffic usage marker is not written, or 0.
 pub fn traffic_refusal(chan: u8) -> u8
     ensures { result ≡ traffic_refusal chan }

@@ -1,7 +1,6 @@
 -- A walk's positions: what the step from each answers, and the position after it. Document 01, "Block".
-use Rattle.std.specs.Prelude.{ℕ, ◌+◌, ◌-◌, ◌≤◌, List}
+use Rattle.std.specs.Prelude.{ℕ, ◌+◌, ◌-◌, ◌≤◌, List, None, Option, Some}
 use Rattle.std.specs.Borrow.{Bor}
-use Rattle.mac_block.specs.declared.reader.PduEnd.{PduEnd}
 use Rattle.mac_block.specs.declared.reader.BlockEntry.{BlockEntry}
 use Rattle.mac_block.specs.declared.reader.StepAnswer.{StepAnswer}
 use Rattle.block_rules.specs.Numbers.{most_bits, least_bits}
@@ -13,9 +12,9 @@ use Rattle.block_walk.specs.declared.WalkStep.{WalkStep}
 use Rattle.block_walk.specs.declared.Walk.{Walk}
 
 -- "if it or its fill (12) is refused, the walk goes on at the PDU's end"; a refusal without an end (4, 8) is the walk's end
-unfoldable pub after_end : (p : ℕ) → PduEnd → Position
-after_end p (PduEnd.At q) = Position.At q
-after_end p PduEnd.Unknown = Position.Ended p
+unfoldable pub after_end : (p : ℕ) → Option ℕ → Position
+after_end p (Some q) = Position.At q
+after_end p None = Position.Ended p
 
 -- "each from the last one's PDU end"; "Rest is the bits after a null PDU, or from p where the walk ended otherwise"
 unfoldable pub after_entry : BlockEntry → Position

@@ -6,7 +6,7 @@ ghost use Rattle.block_walk.specs.Positions.{NullFits, after_end, after_entry, s
 
 use block_rules::LEAST_BITS;
 use mac_block::reader;
-use mac_block::reader::{BlockEntry, PduEnd, RefusedPdu, StepAnswer};
+use mac_block::reader::{BlockEntry, RefusedPdu, StepAnswer};
 
 // Where a walk is. A bit alone would not say it: behind a null PDU the walk has ended, and bits that look like another PDU may follow.
 #[derive(Clone, Copy)]
@@ -29,8 +29,8 @@ fn after_refused(pdu: RefusedPdu) -> Position
 {
     let end = pdu.end;
     match end {
-        PduEnd::At(bit) => Position::At(bit),
-        PduEnd::Unknown => Position::Ended(pdu.bit),
+        Some(bit) => Position::At(bit),
+        None => Position::Ended(pdu.bit),
     }
 }
 

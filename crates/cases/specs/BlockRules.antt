@@ -1,16 +1,12 @@
 -- The rules of document 01's "Block" at their edges, in the form of specs/Cases.antt: a row for each rule, with the sentence that it holds.
 -- docs/TRUST.md says which wrong definitions each row refuses. `proofs/Cases.antt` computes every row.
-use Rattle.std.specs.Prelude.{◌⊎◌, Bool, true, false, List, [], ◌∷◌, ◌++◌, map, ℕ, ◌≤◌, ◌<◌, replicate}
+use Rattle.std.specs.Prelude.{◌⊎◌, Bool, true, false, List, [], ◌∷◌, ◌++◌, map, ℕ, ◌≤◌, ◌<◌, replicate, Err, None, Option, Some}
 use Rattle.std.proofs.Math.Option.{none, some}
 use Rattle.tetra_core.specs.declared.address.SsiType.{SsiType}
 use Rattle.tetra_core.specs.declared.address.DownlinkAddress.{DownlinkAddress}
 use Rattle.channel_allocation.specs.declared.enums.ul_dl_assignment.UlDlAssignment.{UlDlAssignment}
-use Rattle.channel_allocation.specs.declared.channel_allocation.Frame18Pattern.{Frame18Pattern}
-use Rattle.channel_allocation.specs.declared.channel_allocation.ChanAllocLen.{ChanAllocLen}
 use Rattle.channel_allocation.specs.ChannelAllocation.{compute_len}
-use Rattle.optional_elements.specs.declared.allocation.OptionalAllocation.{OptionalAllocation}
 use Rattle.mac_resource.specs.declared.mac_resource.MacResource.{MacResource}
-use Rattle.mac_resource.specs.declared.mac_resource.HeaderLen.{HeaderLen}
 use Rattle.mac_resource.specs.declared.mac_resource.LenAndFill.{LenAndFill}
 use Rattle.mac_resource.specs.MacResource.{null_pdu, compute_header_len, update_len_and_fill_ind}
 use Rattle.block_rules.specs.declared.to_add.LengthIndication.{LengthIndication}
@@ -20,7 +16,6 @@ use Rattle.block_rules.specs.Walk.{Pdu, Entry, place}
 use Rattle.block_rules.specs.Writer.{add_of}
 use Rattle.block_rules.specs.Run.{Call}
 use Rattle.block_rules.specs.Downlink.{DownlinkHeader, HeaderToAdd, resource_to_add}
-use Rattle.mac_block.specs.declared.reader.PduEnd.{PduEnd}
 use Rattle.mac_block.specs.declared.reader.StepAnswer.{StepAnswer}
 use Rattle.mac_block.specs.declared.writer.Written.{Written}
 use Rattle.cases.specs.Cases.{Answer, check, Row, block_from, block, stepped, allocation, header, plain, ssi1, adds_header, adds, counts, done, refused, entry, pdu, null, walked, was_read_at, null_at, refused_at, no_step}
@@ -47,11 +42,11 @@ add_and_finish = counts 0 ∷ Call.finish ∷ []
 -- Lengths 0, 1 and 2, the last with its end in the header; then 7, which passes N by 7 and by 8
 abbrev pub lengths : Row
 lengths =
-    check (stepped (second 0x00 0x01) 104 48) (refused_at 48 PduEnd.Unknown 8 7)
-    ∷ check (stepped (second 0x00 0x09) 104 48) (refused_at 48 PduEnd.Unknown 8 7)
-    ∷ check (stepped (second 0x00 0x11) 104 48) (refused_at 48 (PduEnd.At 64) 1 16)
+    check (stepped (second 0x00 0x01) 104 48) (refused_at 48 None 8 7)
+    ∷ check (stepped (second 0x00 0x09) 104 48) (refused_at 48 None 8 7)
+    ∷ check (stepped (second 0x00 0x11) 104 48) (refused_at 48 (Some 64) 1 16)
     ∷ check (stepped (second 0x00 0x39) 97 48) (was_read_at 48 97 (ssi1 7 false) 91 97)
-    ∷ check (stepped (second 0x00 0x39) 96 48) (refused_at 48 PduEnd.Unknown 8 7)
+    ∷ check (stepped (second 0x00 0x39) 96 48) (refused_at 48 None 8 7)
     ∷ []
 
 -- SSI 1, five ones and 12 bits of fill; the four bits behind it were ones before
@@ -82,9 +77,9 @@ nulls =
 -- address
 abbrev pub types : Row
 types =
-    check (stepped (second 0x40 0x31) 104 48) (refused_at 48 PduEnd.Unknown 4 0)
-    ∷ check (stepped (second 0x80 0x00) 104 48) (refused_at 48 PduEnd.Unknown 4 0)
-    ∷ check (stepped (second 0xc0 0x31) 104 48) (refused_at 48 PduEnd.Unknown 4 0)
+    check (stepped (second 0x40 0x31) 104 48) (refused_at 48 None 4 0)
+    ∷ check (stepped (second 0x80 0x00) 104 48) (refused_at 48 None 4 0)
+    ∷ check (stepped (second 0xc0 0x31) 104 48) (refused_at 48 None 4 0)
     ∷ check (block 104 (second 0xc0 0x31) []) (Answer.Block [] (second 0xc0 0x31) (walked (first ∷ entry 48 (Pdu.unsized 4 0) ∷ []) 48))
     ∷ []
 
@@ -96,16 +91,16 @@ unfilled = behind (0x20 ∷ 0x31 ∷ 0x00 ∷ 0x00 ∷ 0x01 ∷ 0x00 ∷ 0x00 �
 -- is all of its PDU; the 1 behind it is fill in a block of 30 bits
 abbrev pub fills : Row
 fills =
-    check (stepped unfilled 112 48) (refused_at 48 (PduEnd.At 96) 12 43)
+    check (stepped unfilled 112 48) (refused_at 48 (Some 96) 12 43)
     ∷ check (block 112 unfilled []) (Answer.Block [] unfilled (walked (first ∷ entry 48 (Pdu.sized 48 (Reading.refused 12 43)) ∷ null 96 ∷ []) 112))
-    ∷ check (stepped (0x20 ∷ 0x22 ∷ 0x00 ∷ 0x44 ∷ []) 29 0) (refused_at 0 (PduEnd.At 29) 12 29)
+    ∷ check (stepped (0x20 ∷ 0x22 ∷ 0x00 ∷ 0x44 ∷ []) 29 0) (refused_at 0 (Some 29) 12 29)
     ∷ check (stepped (0x20 ∷ 0x22 ∷ 0x00 ∷ 0x44 ∷ []) 30 0) (was_read_at 0 30 (plain 4 true 0 (DownlinkAddress.EventLabel 1)) 29 29)
     ∷ []
 
 -- "fewer than 16 bits left: end"; "A step from a bit past N is refused 13": with 16 bits left, with 15, from N and from N + 1
 abbrev pub steps_from : Row
 steps_from =
-    check (stepped (second 0x00 0x39) 96 80) (refused_at 80 PduEnd.Unknown 8 7)
+    check (stepped (second 0x00 0x39) 96 80) (refused_at 80 None 8 7)
     ∷ check (stepped (second 0x00 0x39) 96 81) (Answer.Step StepAnswer.End)
     ∷ check (stepped (second 0x00 0x39) 96 96) (Answer.Step StepAnswer.End)
     ∷ check (stepped (second 0x00 0x39) 96 97) (no_step 13)
@@ -181,19 +176,19 @@ order =
     ∷ check (block 20 closed (adds LengthIndication.FragStart 446 ∷ [])) (kept (refused 0 8 ∷ []))
     ∷ []
 
-abbrev pub augmented : (pattern : ℕ) → Frame18Pattern → MacResource
-augmented p f = header 0 false 0 (DownlinkAddress.Ssi SsiType.Ssi 1) (OptionalAllocation.Element (allocation UlDlAssignment.Augmented p f))
+abbrev pub augmented : (pattern : ℕ) → Option ℕ → MacResource
+augmented p f = header 0 false 0 (DownlinkAddress.Ssi SsiType.Ssi 1) (Some (allocation UlDlAssignment.Augmented p f))
 
 -- "The three length functions refuse 6 for direction 0, before 8; in an add such an element counts 25 or 27 bits."
 abbrev pub directions : Row
 directions =
-    check (Answer.AllocationLen (compute_len (allocation UlDlAssignment.Augmented 1 Frame18Pattern.Without))) (Answer.AllocationLen (ChanAllocLen.Refused 6))
-    ∷ check (Answer.HeaderBits (compute_header_len (augmented 1 Frame18Pattern.Without))) (Answer.HeaderBits (HeaderLen.Refused 6))
-    ∷ check (Answer.Octets (update_len_and_fill_ind (augmented 1 Frame18Pattern.Without) 488)) (Answer.Octets (LenAndFill.Refused 6))
-    ∷ check (adds_to20 (augmented 1 Frame18Pattern.Without) 421) (kept (refused 0 8 ∷ []))
-    ∷ check (adds_to20 (augmented 1 Frame18Pattern.Without) 420) (kept (refused 0 6 ∷ []))
-    ∷ check (adds_to20 (augmented 0 (Frame18Pattern.Pattern 1)) 419) (kept (refused 0 8 ∷ []))
-    ∷ check (adds_to20 (augmented 0 (Frame18Pattern.Pattern 1)) 418) (kept (refused 0 6 ∷ []))
+    check (Answer.AllocationLen (compute_len (allocation UlDlAssignment.Augmented 1 None))) (Answer.AllocationLen (Err 6))
+    ∷ check (Answer.HeaderBits (compute_header_len (augmented 1 None))) (Answer.HeaderBits (Err 6))
+    ∷ check (Answer.Octets (update_len_and_fill_ind (augmented 1 None) 488)) (Answer.Octets (Err 6))
+    ∷ check (adds_to20 (augmented 1 None) 421) (kept (refused 0 8 ∷ []))
+    ∷ check (adds_to20 (augmented 1 None) 420) (kept (refused 0 6 ∷ []))
+    ∷ check (adds_to20 (augmented 0 (Some 1)) 419) (kept (refused 0 8 ∷ []))
+    ∷ check (adds_to20 (augmented 0 (Some 1)) 418) (kept (refused 0 6 ∷ []))
     ∷ []
 
 -- ---- the words of demand 3

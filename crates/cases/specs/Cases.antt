@@ -1,52 +1,38 @@
 -- Document 01, "Bits to hold against": one row for each case, one for the listing's block, and one for the examples of the refusal table. A row
 -- has calls, each with what the definitions give that its contract cites, and what the paper says. `proofs/Cases.antt` computes every row.
-use Rattle.std.specs.Prelude.{◌≡◌, Bool, true, false, List, [], ◌∷◌, ◌++◌, map, ℕ, replicate}
+use Rattle.std.specs.Prelude.{◌≡◌, Bool, true, false, List, [], ◌∷◌, ◌++◌, map, ℕ, replicate, Err, None, Ok, Option, Result, Some}
 use Rattle.std.proofs.Math.Option.{Option}
 use Rattle.tetra_core.specs.declared.address.SsiType.{SsiType}
 use Rattle.tetra_core.specs.declared.address.DownlinkAddress.{DownlinkAddress}
 use Rattle.tetra_core.specs.declared.address.UplinkAddress.{UplinkAddress}
 use Rattle.tetra_core.specs.BitBuffer.{read_bits, opened}
-use Rattle.tetra_core.specs.declared.bitbuffer.BitsAnswer.{BitsAnswer}
 use Rattle.tetra_core.specs.declared.bitbuffer.BitsRead.{BitsRead}
 use Rattle.tetra_core.specs.declared.bitbuffer.Cursor.{Cursor}
 use Rattle.tetra_core.specs.declared.bitbuffer.Moved.{Moved}
-use Rattle.tetra_core.specs.declared.bitbuffer.Opened.{Opened}
-use Rattle.tetra_core.specs.declared.bitbuffer.Outcome.{Outcome}
 use Rattle.tetra_fields.specs.declared.enums.basic_slotgrant_cap_alloc.BasicSlotgrantCapAlloc.{BasicSlotgrantCapAlloc}
 use Rattle.tetra_fields.specs.declared.enums.basic_slotgrant_granting_delay.BasicSlotgrantGrantingDelay.{BasicSlotgrantGrantingDelay}
 use Rattle.tetra_fields.specs.declared.fields.basic_slotgrant.BasicSlotgrant.{BasicSlotgrant}
 use Rattle.tetra_fields.specs.BasicSlotgrant.{slotgrant_write, slotgrant_written}
 use Rattle.channel_allocation.specs.declared.enums.alloc_type.ChanAllocType.{ChanAllocType}
 use Rattle.channel_allocation.specs.declared.enums.ul_dl_assignment.UlDlAssignment.{UlDlAssignment}
-use Rattle.channel_allocation.specs.declared.channel_allocation.Frame18Pattern.{Frame18Pattern}
 use Rattle.channel_allocation.specs.declared.channel_allocation.ChanAllocElement.{ChanAllocElement}
-use Rattle.channel_allocation.specs.declared.channel_allocation.ChanAllocLen.{ChanAllocLen}
-use Rattle.channel_allocation.specs.declared.channel_allocation.ChannelAllocationAnswer.{ChannelAllocationAnswer}
 use Rattle.channel_allocation.specs.declared.channel_allocation.ChannelAllocationRead.{ChannelAllocationRead}
 use Rattle.channel_allocation.specs.ChannelAllocation.{compute_len, channel_allocation_at, channel_allocation_write, channel_allocation_written}
 use Rattle.access_assign.specs.declared.enums.access_assign_dl_usage.AccessAssignDlUsage.{AccessAssignDlUsage}
 use Rattle.access_assign.specs.declared.enums.access_assign_ul_usage.AccessAssignUlUsage.{AccessAssignUlUsage}
 use Rattle.access_assign.specs.declared.access_assign.AccessAssign.{AccessAssign}
-use Rattle.access_assign.specs.declared.access_assign.AccessAssignAnswer.{AccessAssignAnswer}
 use Rattle.access_assign.specs.declared.access_assign.AccessAssignRead.{AccessAssignRead}
 use Rattle.access_assign.specs.AccessAssign.{default_access_assign, access_assign_at, access_assign_write, access_assign_written}
 use Rattle.mac_access.specs.declared.mac_access.MacAccess.{MacAccess}
 use Rattle.mac_access.specs.declared.mac_access.MacAccessOption.{MacAccessOption}
-use Rattle.mac_access.specs.declared.mac_access.MacAccessAnswer.{MacAccessAnswer}
 use Rattle.mac_access.specs.declared.mac_access.MacAccessRead.{MacAccessRead}
 use Rattle.mac_access.specs.MacAccess.{mac_access_at, mac_access_write, mac_access_written}
 use Rattle.mac_data.specs.declared.mac_data.MacData.{MacData}
 use Rattle.mac_data.specs.declared.mac_data.MacDataOption.{MacDataOption}
-use Rattle.mac_data.specs.declared.mac_data.MacDataAnswer.{MacDataAnswer}
 use Rattle.mac_data.specs.declared.mac_data.MacDataRead.{MacDataRead}
 use Rattle.mac_data.specs.MacData.{mac_data_at, mac_data_write, mac_data_written}
-use Rattle.optional_elements.specs.declared.power_control.OptionalPower.{OptionalPower}
-use Rattle.optional_elements.specs.declared.slot_granting.OptionalGrant.{OptionalGrant}
-use Rattle.optional_elements.specs.declared.allocation.OptionalAllocation.{OptionalAllocation}
 use Rattle.mac_resource.specs.declared.mac_resource.MacResource.{MacResource}
-use Rattle.mac_resource.specs.declared.mac_resource.MacResourceAnswer.{MacResourceAnswer}
 use Rattle.mac_resource.specs.declared.mac_resource.MacResourceRead.{MacResourceRead}
-use Rattle.mac_resource.specs.declared.mac_resource.HeaderLen.{HeaderLen}
 use Rattle.mac_resource.specs.declared.mac_resource.LenAndFill.{LenAndFill}
 use Rattle.mac_resource.specs.MacResource.{null_pdu, mac_resource_at, mac_resource_write, mac_resource_written, compute_header_len, update_len_and_fill_ind}
 use Rattle.block_rules.specs.declared.to_add.LengthIndication.{LengthIndication}
@@ -56,7 +42,6 @@ use Rattle.block_rules.specs.Writer.{Writer, writer_at, finish_to, add_of, add_t
 use Rattle.block_rules.specs.Run.{Call, run}
 use Rattle.block_rules.specs.Downlink.{DownlinkHeader, downlink_reader, HeaderToAdd, resource_to_add, downlink_writer}
 use Rattle.mac_block.specs.declared.reader.BlockEntry.{BlockEntry}
-use Rattle.mac_block.specs.declared.reader.PduEnd.{PduEnd}
 use Rattle.mac_block.specs.declared.reader.StepAnswer.{StepAnswer}
 use Rattle.mac_block.specs.declared.writer.Written.{Written}
 use Rattle.mac_block.specs.Answers.{step_answer, finish_answer, add_answer}
@@ -67,7 +52,7 @@ pub data Answer : Type 0 where
   Wrote : Moved → (bytes : List ℕ) → Answer
   -- a bare field, and a window over a slice
   ReadField : BitsRead → Answer
-  OpenedWindow : Opened → Answer
+  OpenedWindow : Result Cursor Refusal → Answer
   -- a header or an element that is read
   ReadAllocation : ChannelAllocationRead → Answer
   ReadAssign : AccessAssignRead → Answer
@@ -75,9 +60,9 @@ pub data Answer : Type 0 where
   ReadData : MacDataRead → Answer
   ReadResource : MacResourceRead → Answer
   -- its length: `compute_len`, `compute_header_len`, `update_len_and_fill_ind`
-  AllocationLen : ChanAllocLen → Answer
-  HeaderBits : HeaderLen → Answer
-  Octets : LenAndFill → Answer
+  AllocationLen : Result Bits ℕ → Answer
+  HeaderBits : Result Bits ℕ → Answer
+  Octets : Result LenAndFill ℕ → Answer
   -- the adds and finishes of a block, each with the writer's bit after it, the bytes that are left, and the walk of the block then
   Block : List Written → (bytes : List ℕ) → Walk DownlinkHeader → Answer
   -- one step in a block
@@ -109,13 +94,13 @@ window p n = record { start = 0; pos = p; end = n }
 
 -- a write that is done and leaves the cursor at p
 abbrev pub wrote : (p n : ℕ) → List ℕ → Answer
-wrote p n bytes = Answer.Wrote (record { cursor = window p n; answer = Outcome.Done }) bytes
+wrote p n bytes = Answer.Wrote (record { cursor = window p n; answer = (Ok tt) }) bytes
 
 abbrev pub octets : (octets fill : ℕ) → Bool → Answer
-octets o f flag = Answer.Octets (LenAndFill.Counted (record { 0 = o }) (record { 0 = f }) flag)
+octets o f flag = Answer.Octets (Ok (record { octets = record { 0 = o }; fill = record { 0 = f }; fill_bits = flag }))
 
 -- replace, slot 1, carrier 1
-abbrev pub allocation : UlDlAssignment → (pattern : ℕ) → Frame18Pattern → ChanAllocElement
+abbrev pub allocation : UlDlAssignment → (pattern : ℕ) → Option ℕ → ChanAllocElement
 allocation d p f =
     record {
       alloc_type = ChanAllocType.Replace;
@@ -149,7 +134,7 @@ abbrev pub stepped : List ℕ → (n p : ℕ) → Answer
 stepped bytes n p = Answer.Step (step_answer (step downlink_reader bytes n p))
 
 -- a header with a channel allocation or none, and no other element
-abbrev pub header : (length : ℕ) → (fill : Bool) → (mode : ℕ) → DownlinkAddress → OptionalAllocation → MacResource
+abbrev pub header : (length : ℕ) → (fill : Bool) → (mode : ℕ) → DownlinkAddress → Option ChanAllocElement → MacResource
 header l f m a e =
     record {
       fill_bits = f;
@@ -158,13 +143,13 @@ header l f m a e =
       random_access_flag = false;
       length_ind = l;
       addr = a;
-      power_control_element = OptionalPower.Without;
-      slot_granting_element = OptionalGrant.Without;
+      power_control_element = None;
+      slot_granting_element = None;
       chan_alloc_element = e;
     }
 
 abbrev pub plain : (length : ℕ) → (fill : Bool) → (mode : ℕ) → DownlinkAddress → MacResource
-plain l f m a = header l f m a OptionalAllocation.Without
+plain l f m a = header l f m a None
 
 -- "SSI 1, no elements"
 abbrev pub ssi1 : (length : ℕ) → (fill : Bool) → MacResource
@@ -182,10 +167,10 @@ counts k = adds LengthIndication.Counted k
 
 -- a call that is done, or refused, with the writer's bit after it
 abbrev pub done : (bit : ℕ) → Written
-done p = record { bit = p; answer = Outcome.Done }
+done p = record { bit = p; answer = (Ok tt) }
 
 abbrev pub refused : (bit number : ℕ) → Written
-refused p j = record { bit = p; answer = Outcome.Refused j }
+refused p j = record { bit = p; answer = Err j }
 
 abbrev pub entry : (bit : ℕ) → Pdu DownlinkHeader → Entry DownlinkHeader
 entry p x = record { bit = p; pdu = x }
@@ -209,7 +194,7 @@ was_read_at p e h a b =
 abbrev pub null_at : (bit : ℕ) → Answer
 null_at p = Answer.Step (StepAnswer.Entry (BlockEntry.Null p))
 
-abbrev pub refused_at : (bit : ℕ) → PduEnd → (number offset : ℕ) → Answer
+abbrev pub refused_at : (bit : ℕ) → Option ℕ → (number offset : ℕ) → Answer
 refused_at p e j o =
     Answer.Step (StepAnswer.Entry (BlockEntry.Refused (record { bit = p; end = e; refusal = record { number = j; offset = o } })))
 
@@ -228,19 +213,19 @@ case_1 =
     check (Answer.Wrote (mac_resource_write (0xff ∷ 0xff ∷ []) (window 0 16) null_pdu) (mac_resource_written (0xff ∷ 0xff ∷ []) (window 0 16) null_pdu))
     (wrote 16 16 (0x00 ∷ 0x10 ∷ []))
     ∷ check (Answer.ReadResource (mac_resource_at (0x00 ∷ 0x10 ∷ []) (window 0 16)))
-    (Answer.ReadResource (record { cursor = window 16 16; answer = MacResourceAnswer.Read null_pdu }))
+    (Answer.ReadResource (record { cursor = window 16 16; answer = Ok null_pdu }))
     ∷ check (block 16 (0xff ∷ 0xff ∷ []) (Call.finish ∷ [])) (Answer.Block (done 16 ∷ []) (0x00 ∷ 0x10 ∷ []) (walked (null 0 ∷ []) 16))
     ∷ []
 
 -- "SSI 1, no elements, no content: 43 bits, 6 octets, 5 fill: 20 31 00 00 01 10 h."
 abbrev pub case_2 : Row
 case_2 =
-    check (Answer.HeaderBits (compute_header_len (ssi1 0 false))) (Answer.HeaderBits (HeaderLen.Len (record { 0 = 43 })))
+    check (Answer.HeaderBits (compute_header_len (ssi1 0 false))) (Answer.HeaderBits (Ok (record { 0 = 43 })))
     ∷ check (Answer.Octets (update_len_and_fill_ind (ssi1 0 false) 0)) (octets 6 5 true)
     ∷ check (block 48 (replicate 6 0xff) (counts 0 ∷ []))
     (Answer.Block (done 48 ∷ []) (0x20 ∷ 0x31 ∷ 0x00 ∷ 0x00 ∷ 0x01 ∷ 0x10 ∷ []) (walked (pdu 0 48 6 true 0 5 ∷ []) 48))
     ∷ check (Answer.ReadResource (mac_resource_at (0x20 ∷ 0x31 ∷ 0x00 ∷ 0x00 ∷ 0x01 ∷ 0x10 ∷ []) (window 0 48)))
-    (Answer.ReadResource (record { cursor = window 43 48; answer = MacResourceAnswer.Read (ssi1 6 true) }))
+    (Answer.ReadResource (record { cursor = window 43 48; answer = Ok (ssi1 6 true) }))
     ∷ []
 
 -- "Content 5: 6 octets, fill 0; content 6: 7 octets, fill 7."
@@ -256,15 +241,15 @@ case_3 =
 
 -- "Replace, slot 1, both, carrier 1, pattern 1: 23 00 04 80 h, 25 bits."
 abbrev pub replace : ChanAllocElement
-replace = allocation UlDlAssignment.Both 1 Frame18Pattern.Without
+replace = allocation UlDlAssignment.Both 1 None
 
 abbrev pub case_4 : Row
 case_4 =
-    check (Answer.AllocationLen (compute_len replace)) (Answer.AllocationLen (ChanAllocLen.Len (record { 0 = 25 })))
+    check (Answer.AllocationLen (compute_len replace)) (Answer.AllocationLen (Ok (record { 0 = 25 })))
     ∷ check (Answer.Wrote (channel_allocation_write (replicate 4 0) (window 0 32) replace) (channel_allocation_written (replicate 4 0) (window 0 32) replace))
     (wrote 25 32 (0x23 ∷ 0x00 ∷ 0x04 ∷ 0x80 ∷ []))
     ∷ check (Answer.ReadAllocation (channel_allocation_at (0x23 ∷ 0x00 ∷ 0x04 ∷ 0x80 ∷ []) (window 0 32)))
-    (Answer.ReadAllocation (record { cursor = window 25 32; answer = ChannelAllocationAnswer.Read replace }))
+    (Answer.ReadAllocation (record { cursor = window 25 32; answer = Ok replace }))
     ∷ []
 
 -- "`AccessAssign` default: 06 18 h, 14 bits."
@@ -273,7 +258,7 @@ case_5 =
     check (Answer.Wrote (access_assign_write (0 ∷ 0 ∷ []) (window 0 16) default_access_assign) (access_assign_written (0 ∷ 0 ∷ []) (window 0 16) default_access_assign))
     (wrote 14 16 (0x06 ∷ 0x18 ∷ []))
     ∷ check (Answer.ReadAssign (access_assign_at (0x06 ∷ 0x18 ∷ []) (window 0 16)))
-    (Answer.ReadAssign (record { cursor = window 14 16; answer = AccessAssignAnswer.Read default_access_assign }))
+    (Answer.ReadAssign (record { cursor = window 14 16; answer = Ok default_access_assign }))
     ∷ []
 
 -- "Header 3, downlink 4, uplink 0: C4 00 h; uplink 2 refused 7 at 8."
@@ -285,9 +270,9 @@ case_6 =
     check (Answer.Wrote (access_assign_write (0 ∷ 0 ∷ []) (window 0 16) traffic4) (access_assign_written (0 ∷ 0 ∷ []) (window 0 16) traffic4))
     (wrote 14 16 (0xc4 ∷ 0x00 ∷ []))
     ∷ check (Answer.ReadAssign (access_assign_at (0xc4 ∷ 0x00 ∷ []) (window 0 16)))
-    (Answer.ReadAssign (record { cursor = window 14 16; answer = AccessAssignAnswer.Read traffic4 }))
+    (Answer.ReadAssign (record { cursor = window 14 16; answer = Ok traffic4 }))
     ∷ check (Answer.ReadAssign (access_assign_at (0xc4 ∷ 0x08 ∷ []) (window 0 16)))
-    (Answer.ReadAssign (record { cursor = window 0 16; answer = AccessAssignAnswer.Refused (record { number = 7; offset = 8 }) }))
+    (Answer.ReadAssign (record { cursor = window 0 16; answer = Err (record { number = 7; offset = 8 }) }))
     ∷ []
 
 -- "MAC-ACCESS, SSI 1, no options: 00 00 00 08 h, 30 bits."
@@ -299,7 +284,7 @@ case_7 =
     check (Answer.Wrote (mac_access_write (replicate 4 0) (window 0 32) access1) (mac_access_written (replicate 4 0) (window 0 32) access1))
     (wrote 30 32 (0x00 ∷ 0x00 ∷ 0x00 ∷ 0x08 ∷ []))
     ∷ check (Answer.ReadAccess (mac_access_at (0x00 ∷ 0x00 ∷ 0x00 ∷ 0x08 ∷ []) (window 0 32)))
-    (Answer.ReadAccess (record { cursor = window 30 32; answer = MacAccessAnswer.Read access1 }))
+    (Answer.ReadAccess (record { cursor = window 30 32; answer = Ok access1 }))
     ∷ []
 
 -- "MAC-DATA, label 1, length 5: 04 01 0A h, 23 bits."
@@ -311,7 +296,7 @@ case_8 =
     check (Answer.Wrote (mac_data_write (replicate 3 0) (window 0 24) data1) (mac_data_written (replicate 3 0) (window 0 24) data1))
     (wrote 23 24 (0x04 ∷ 0x01 ∷ 0x0A ∷ []))
     ∷ check (Answer.ReadData (mac_data_at (0x04 ∷ 0x01 ∷ 0x0A ∷ []) (window 0 24)))
-    (Answer.ReadData (record { cursor = window 23 24; answer = MacDataAnswer.Read data1 }))
+    (Answer.ReadData (record { cursor = window 23 24; answer = Ok data1 }))
     ∷ []
 
 -- "One PDU of 268 bits in 268: length 34, fill clear; 267: fill one bit."
@@ -327,14 +312,14 @@ case_9 =
 abbrev pub case_10 : Row
 case_10 =
     check (stepped (ones 0x01 0x11) 268 0) (was_read_at 0 268 (ssi1 34 false) 43 268)
-    ∷ check (stepped (ones 0x01 0x19) 268 0) (refused_at 0 PduEnd.Unknown 8 7)
+    ∷ check (stepped (ones 0x01 0x19) 268 0) (refused_at 0 None 8 7)
     ∷ []
 
 -- "488 bits give 61 octets; 489 refused 8."
 abbrev pub case_11 : Row
 case_11 =
     check (Answer.Octets (update_len_and_fill_ind (ssi1 0 false) 445)) (octets 61 0 false)
-    ∷ check (Answer.Octets (update_len_and_fill_ind (ssi1 0 false) 446)) (Answer.Octets (LenAndFill.Refused 8))
+    ∷ check (Answer.Octets (update_len_and_fill_ind (ssi1 0 false) 446)) (Answer.Octets (Err 8))
     ∷ check (block 488 (replicate 61 0) (counts 446 ∷ counts 445 ∷ []))
     (Answer.Block (refused 0 8 ∷ done 488 ∷ [])
     (0x01 ∷ 0xe9 ∷ 0x00 ∷ 0x00 ∷ 0x01 ∷ 0x1f ∷ replicate 55 0xff)
@@ -365,14 +350,14 @@ listing =
 
 -- a write that is refused leaves the cursor at 0 and the bytes
 abbrev pub not_written : (number n : ℕ) → List ℕ → Answer
-not_written j n bytes = Answer.Wrote (record { cursor = window 0 n; answer = Outcome.Refused j }) bytes
+not_written j n bytes = Answer.Wrote (record { cursor = window 0 n; answer = Err j }) bytes
 
 abbrev pub resource_written : MacResource → Answer
 resource_written h = Answer.Wrote (mac_resource_write (replicate 6 0) (window 0 48) h) (mac_resource_written (replicate 6 0) (window 0 48) h)
 
 -- "pattern 0, none"
 abbrev pub patternless : ChanAllocElement
-patternless = allocation UlDlAssignment.Both 0 Frame18Pattern.Without
+patternless = allocation UlDlAssignment.Both 0 None
 
 -- "delay count 14"
 abbrev pub delay14 : BasicSlotgrant
@@ -383,21 +368,21 @@ delay14 = record { capacity_allocation = BasicSlotgrantCapAlloc.Grant4Slots; gra
 abbrev pub refusals : Row
 refusals =
     check (Answer.ReadField (read_bits (0xff ∷ []) (window 5 8) 4))
-    (Answer.ReadField (record { cursor = window 5 8; answer = BitsAnswer.Refused (record { number = 1; offset = 0 }) }))
+    (Answer.ReadField (record { cursor = window 5 8; answer = Err (record { number = 1; offset = 0 }) }))
     ∷ check (block 268 (replicate 34 0) (counts 226 ∷ [])) (Answer.Block (refused 0 2 ∷ []) (replicate 34 0) (walked (entry 0 (Pdu.null 0) ∷ []) 16))
     ∷ check (resource_written (plain 6 false 0 (DownlinkAddress.EventLabel 1024))) (not_written 3 48 (replicate 6 0))
     ∷ check (Answer.ReadResource (mac_resource_at (0x40 ∷ 0x00 ∷ []) (window 0 16)))
-    (Answer.ReadResource (record { cursor = window 0 16; answer = MacResourceAnswer.Refused (record { number = 4; offset = 0 }) }))
+    (Answer.ReadResource (record { cursor = window 0 16; answer = Err (record { number = 4; offset = 0 }) }))
     ∷ check (Answer.ReadAllocation (channel_allocation_at (0x23 ∷ 0x00 ∷ 0x06 ∷ 0x80 ∷ []) (window 0 32)))
-    (Answer.ReadAllocation (record { cursor = window 0 32; answer = ChannelAllocationAnswer.Refused (record { number = 5; offset = 22 }) }))
+    (Answer.ReadAllocation (record { cursor = window 0 32; answer = Err (record { number = 5; offset = 22 }) }))
     ∷ check (Answer.ReadAllocation (channel_allocation_at (0x20 ∷ 0x00 ∷ 0x04 ∷ 0x80 ∷ []) (window 0 32)))
-    (Answer.ReadAllocation (record { cursor = window 0 32; answer = ChannelAllocationAnswer.Refused (record { number = 6; offset = 6 }) }))
+    (Answer.ReadAllocation (record { cursor = window 0 32; answer = Err (record { number = 6; offset = 6 }) }))
     ∷ check (resource_written (plain 2 true 0 DownlinkAddress.NullPdu)) (not_written 9 48 (replicate 6 0))
     ∷ check (resource_written (plain 6 false 1 (DownlinkAddress.Ssi SsiType.Ssi 1))) (not_written 10 48 (replicate 6 0))
     ∷ check (Answer.Wrote (channel_allocation_write (replicate 4 0) (window 0 32) patternless) (channel_allocation_written (replicate 4 0) (window 0 32) patternless))
     (not_written 11 32 (replicate 4 0))
-    ∷ check (stepped (0x20 ∷ 0x31 ∷ 0x00 ∷ 0x00 ∷ 0x01 ∷ 0x00 ∷ []) 48 0) (refused_at 0 (PduEnd.At 48) 12 43)
-    ∷ check (Answer.OpenedWindow (opened 1 9)) (Answer.OpenedWindow (Opened.Refused (record { number = 13; offset = 0 })))
+    ∷ check (stepped (0x20 ∷ 0x31 ∷ 0x00 ∷ 0x00 ∷ 0x01 ∷ 0x00 ∷ []) 48 0) (refused_at 0 (Some 48) 12 43)
+    ∷ check (Answer.OpenedWindow (opened 1 9)) (Answer.OpenedWindow (Err (record { number = 13; offset = 0 })))
     ∷ check (Answer.Wrote (slotgrant_write (0xff ∷ []) (window 0 8) delay14) (slotgrant_written (0xff ∷ []) (window 0 8) delay14))
     (not_written 14 8 (0xff ∷ []))
     ∷ []

@@ -1,7 +1,7 @@
 -- The channel allocation (document 01): "Allocation type 2 (0 replace, 1 additional, 2 quit and go, 3 replace with carrier signalling),
 -- timeslots 4 (slot 1 first), direction 2 (0 augmented, 1 down, 2 up, 3 both), CLCH permission 1, cell change 1, carrier 12, extension flag
 -- 1, monitoring pattern 2, and frame-18 pattern 2 only where the pattern is 0. Length 27 bits with pattern 0, else 25."
-use Rattle.std.specs.Prelude.{ℕ, zero, suc, ◌+◌, ◌*◌, ◌/◌, ◌%◌, ◌^◌, List, [], ◌∷◌, ◌++◌, Bool, cond, get_or, eqb, leb, ltb}
+use Rattle.std.specs.Prelude.{ℕ, zero, suc, ◌+◌, ◌*◌, ◌/◌, ◌%◌, ◌^◌, List, [], ◌∷◌, ◌++◌, Bool, cond, get_or, eqb, leb, ltb, Err, None, Ok, Option, Result, Some}
 use Rattle.bits.specs.Bits.{digit}
 use Rattle.tetra_core.specs.Refusal.{unless, first}
 use Rattle.tetra_core.specs.declared.bitbuffer.Cursor.{Cursor}
@@ -14,22 +14,14 @@ use Rattle.codec.specs.Write.{write_at, written_at}
 use Rattle.codec.specs.Cases.{flag}
 use Rattle.channel_allocation.specs.declared.enums.alloc_type.ChanAllocType.{ChanAllocType}
 use Rattle.channel_allocation.specs.declared.enums.alloc_type.ChanAllocType.TheVariants.{Replace, Additional, QuitAndGo, ReplaceWithCarrierSignalling}
-use Rattle.channel_allocation.specs.declared.enums.alloc_type.AllocTypeCase.{AllocTypeCase}
-use Rattle.channel_allocation.specs.declared.enums.alloc_type.AllocTypeCase.TheVariants as AllocTypeCase'
 use Rattle.channel_allocation.specs.declared.enums.ul_dl_assignment.UlDlAssignment.{UlDlAssignment}
 use Rattle.channel_allocation.specs.declared.enums.ul_dl_assignment.UlDlAssignment.TheVariants.{Augmented, Dl, Ul, Both}
-use Rattle.channel_allocation.specs.declared.enums.ul_dl_assignment.UlDlCase.{UlDlCase}
-use Rattle.channel_allocation.specs.declared.enums.ul_dl_assignment.UlDlCase.TheVariants as UlDlCase'
 use Rattle.channel_allocation.specs.declared.channel_allocation.TimeslotsAssigned.{TimeslotsAssigned}
-use Rattle.channel_allocation.specs.declared.channel_allocation.Frame18Pattern.{Frame18Pattern}
-use Rattle.channel_allocation.specs.declared.channel_allocation.Frame18Pattern.TheVariants.{Without, Pattern}
 use Rattle.channel_allocation.specs.declared.channel_allocation.MonPatterns.{MonPatterns}
 use Rattle.channel_allocation.specs.declared.channel_allocation.MonPatternsPart.{MonPatternsPart}
 use Rattle.channel_allocation.specs.declared.channel_allocation.ChanAllocElement.{ChanAllocElement}
-use Rattle.channel_allocation.specs.declared.channel_allocation.ChannelAllocationAnswer.{ChannelAllocationAnswer}
 use Rattle.channel_allocation.specs.declared.channel_allocation.ChannelAllocationRead.{ChannelAllocationRead}
 use Rattle.channel_allocation.specs.declared.channel_allocation.ChannelAllocationPart.{ChannelAllocationPart}
-use Rattle.channel_allocation.specs.declared.channel_allocation.ChanAllocLen.{ChanAllocLen}
 
 -- ---- the number of each case
 
@@ -48,8 +40,8 @@ unfoldable pub alloc_type_of : ℕ → ChanAllocType
 alloc_type_of v = get_or alloc_types (v % 4) ReplaceWithCarrierSignalling
 
 -- of a number, where it is one of 2 bits
-abbrev pub alloc_type_case : ℕ → AllocTypeCase
-alloc_type_case v = cond (leb v 3) (AllocTypeCase'.Case (alloc_type_of v)) AllocTypeCase'.Nothing
+abbrev pub alloc_type_case : ℕ → Option ChanAllocType
+alloc_type_case v = cond (leb v 3) (Some (alloc_type_of v)) None
 
 abbrev pub ul_dl_number : UlDlAssignment → ℕ
 ul_dl_number Augmented = 0
@@ -65,8 +57,8 @@ unfoldable pub ul_dl_of : ℕ → UlDlAssignment
 ul_dl_of v = get_or ul_dls (v % 4) Both
 
 -- of a number, where it is one of 2 bits
-abbrev pub ul_dl_case : ℕ → UlDlCase
-ul_dl_case v = cond (leb v 3) (UlDlCase'.Case (ul_dl_of v)) UlDlCase'.Nothing
+abbrev pub ul_dl_case : ℕ → Option UlDlAssignment
+ul_dl_case v = cond (leb v 3) (Some (ul_dl_of v)) None
 
 -- "slot 1 first"
 abbrev pub timeslots_number : TimeslotsAssigned → ℕ
@@ -75,9 +67,9 @@ timeslots_number t = digit t.ts1 * 8 + digit t.ts2 * 4 + digit t.ts3 * 2 + digit
 abbrev pub timeslots_of : ℕ → TimeslotsAssigned
 timeslots_of v = record { ts1 = flag (v / 8 % 2); ts2 = flag (v / 4 % 2); ts3 = flag (v / 2 % 2); ts4 = flag (v % 2) }
 
-abbrev pub frame18_number : Frame18Pattern → ℕ
-frame18_number Without = 0
-frame18_number (Pattern v) = v
+abbrev pub frame18_number : Option ℕ → ℕ
+frame18_number None = 0
+frame18_number (Some v) = v
 
 -- ---- how many bits: up to the extension flag, of the patterns at most, and of the whole, "27 bits with pattern 0, else 25"
 
@@ -101,8 +93,8 @@ read_mon_patterns = do
   choose (eqb pattern 0)
       (do
         v ← field 2 done
-        done (record { mon_pattern = pattern; frame18_mon_pattern = Pattern v }))
-      (done (record { mon_pattern = pattern; frame18_mon_pattern = Without }))
+        done (record { mon_pattern = pattern; frame18_mon_pattern = Some v }))
+      (done (record { mon_pattern = pattern; frame18_mon_pattern = None }))
 
 abbrev pub mon_patterns_out : List Bool → MonPatternsPart → Out MonPatterns
 mon_patterns_out h p = part_after p.refusal p.patterns p.after h
@@ -153,16 +145,16 @@ channel_allocation_out h p = part_after p.refusal p.element p.after h
 
 unfoldable pub channel_allocation_at : List ℕ → Cursor → ChannelAllocationRead
 channel_allocation_at =
-    at_cursor read_channel_allocation (λ c a. record { cursor = c; answer = a }) ChannelAllocationAnswer.Read ChannelAllocationAnswer.Refused
+    at_cursor read_channel_allocation (λ c a. record { cursor = c; answer = a }) Ok Err
 
 -- ---- what is written
 
 -- "pattern 0 lacks frame-18 pattern"; beside another pattern it is not written and not checked
-abbrev pub pattern_refusal : Frame18Pattern → ℕ
-pattern_refusal Without = 11
-pattern_refusal (Pattern v) = unless (ltb v (2 ^ 2)) 3
+abbrev pub pattern_refusal : Option ℕ → ℕ
+pattern_refusal None = 11
+pattern_refusal (Some v) = unless (ltb v (2 ^ 2)) 3
 
-unfoldable pub frame18_refusal : ℕ → Frame18Pattern → ℕ
+unfoldable pub frame18_refusal : ℕ → Option ℕ → ℕ
 frame18_refusal pattern p = cond (eqb pattern 0) (pattern_refusal p) 0
 
 abbrev pub ul_dl_refusal : UlDlAssignment → ℕ
@@ -209,11 +201,11 @@ unfoldable pub channel_allocation_len : ChanAllocElement → ℕ
 channel_allocation_len e = cond (eqb e.mon_pattern 0) channel_allocation_most channel_allocation_least
 
 -- a length whose refusal is j, or 0 if nothing refuses it
-abbrev pub len_or : ℕ → ℕ → ChanAllocLen
-len_or zero n = ChanAllocLen.Len (record { 0 = n })
-len_or (suc j) n = ChanAllocLen.Refused (suc j)
+abbrev pub len_or : ℕ → ℕ → Result Bits ℕ
+len_or zero n = Ok (record { 0 = n })
+len_or (suc j) n = Err (suc j)
 
-unfoldable pub compute_len : ChanAllocElement → ChanAllocLen
+unfoldable pub compute_len : ChanAllocElement → Result Bits ℕ
 compute_len e = len_or (len_refusal e) (channel_allocation_len e)
 
 abbrev pub channel_allocation_write : List ℕ → Cursor → ChanAllocElement → Moved
@@ -233,5 +225,5 @@ normal_channel_allocation e =
       cell_change_flag = e.cell_change_flag;
       carrier_num = e.carrier_num;
       mon_pattern = e.mon_pattern;
-      frame18_mon_pattern = cond (eqb e.mon_pattern 0) e.frame18_mon_pattern Without;
+      frame18_mon_pattern = cond (eqb e.mon_pattern 0) e.frame18_mon_pattern None;
     }

@@ -60,13 +60,6 @@ pub struct TimeslotsAssigned {
     pub ts4: bool,
 }
 
-// The frame-18 pattern, which stands only beside monitoring pattern 0.
-#[derive(Clone, Copy)]
-pub enum Frame18Pattern {
-    Without,
-    Pattern(u8),
-}
-
 // Each field with its bits.
 #[derive(Clone, Copy)]
 pub struct ChanAllocElement {
@@ -85,21 +78,14 @@ pub struct ChanAllocElement {
     // 2, after the extension flag
     pub mon_pattern: u8,
     // 2 where mon_pattern is 0
-    pub frame18_mon_pattern: Frame18Pattern,
-}
-
-// A channel allocation, or why there is none.
-#[derive(Clone, Copy)]
-pub enum ChannelAllocationAnswer {
-    Read(ChanAllocElement),
-    Refused(Refusal),
+    pub frame18_mon_pattern: Option<u8>,
 }
 
 // What a read answers, and the cursor after it.
 #[derive(Clone, Copy)]
 pub struct ChannelAllocationRead {
     pub cursor: Cursor,
-    pub answer: ChannelAllocationAnswer,
+    pub answer: Result<ChanAllocElement, Refusal>,
 }
 
 // A channel allocation as a part of a header: why it is not read, or number 0; and what is ahead after it.
@@ -114,7 +100,7 @@ pub struct ChannelAllocationPart {
 #[derive(Clone, Copy)]
 struct MonPatterns {
     pub mon_pattern: u8,
-    pub frame18_mon_pattern: Frame18Pattern,
+    pub frame18_mon_pattern: Option<u8>,
 }
 
 #[derive(Clone, Copy)]
@@ -122,13 +108,6 @@ struct MonPatternsPart {
     refusal: Refusal,
     patterns: MonPatterns,
     after: Ahead,
-}
-
-// The bits that a channel allocation takes up, or the number of the refusal.
-#[derive(Clone, Copy)]
-pub enum ChanAllocLen {
-    Len(Bits),
-    Refused(u8),
 }
 
 // The timeslots of a field's bits, the low 4 of v.
@@ -152,12 +131,12 @@ pub fn timeslots_into_raw(t: TimeslotsAssigned) -> u64
         + codec::bit(t.ts4)
 }
 
-pub fn frame18_into_raw(p: Frame18Pattern) -> u64
+pub fn frame18_into_raw(p: Option<u8>) -> u64
     ensures { (result ≡ frame18_number p) × (result < 256) }
 {
     match p {
-        Frame18Pattern::Without => 0,
-        Frame18Pattern::Pattern(v) => v as u64,
+        None => 0,
+        Some(v) => v as u64,
     }
 }
 
@@ -169,7 +148,7 @@ fn patterns_refused(offset: usize, after: Ahead) -> MonPatternsPart
         refusal: codec::field_past_end(offset),
         patterns: MonPatterns {
             mon_pattern: 0,
-            frame18_mon_pattern: Frame18Pattern::Without,
+            frame18_mon_pattern: None,
         },
         after,
     }
@@ -177,7 +156,7 @@ fn patterns_refused(offset: usize, after: Ahead) -> MonPatternsPart
 
 fn patterns_read(
     mon_pattern: u8,
-    frame18_mon_pattern: Frame18Pattern,
+    frame18_mon_pattern: Option<u8>,
     after: Ahead,
 ) -> MonPatternsPart
     ensures { result ≡ record { refusal = record { number = 0; offset = 0 }; patterns = record { mon_pattern = mon_pattern; frame18_mon_pattern = frame18_mon_pattern }; after = after } }
@@ -204,7 +183,7 @@ fn read_mon_patterns(a: Ahead) -> MonPatternsPart
     let pattern = codec::next_bits(a, 2);
     let b = codec::advance(a, 2);
     if pattern != 0 {
-        return patterns_read(pattern as u8, Frame18Pattern::Without, b);
+        return patterns_read(pattern as u8, None, b);
     }
     if left < 4 {
         return patterns_refused(b.at, a);
@@ -212,7 +191,7 @@ fn read_mon_patterns(a: Ahead) -> MonPatternsPart
     let v = codec::next_bits(b, 2);
     patterns_read(
         pattern as u8,
-        Frame18Pattern::Pattern(v as u8),
+        Some(v as u8),
         codec::advance(b, 2),
     )
 }
@@ -240,7 +219,7 @@ fn refused(refusal: Refusal, after: Ahead) -> ChannelAllocationPart
 {
     let none = MonPatterns {
         mon_pattern: 0,
-        frame18_mon_pattern: Frame18Pattern::Without,
+        frame18_mon_pattern: None,
     };
     ChannelAllocationPart {
         refusal,
@@ -296,7 +275,7 @@ pub fn from_bitbuf(s: &[u8], c: Cursor) -> ChannelAllocationRead
     if !bitbuffer::good_window(s.len(), c) {
         return ChannelAllocationRead {
             cursor: c,
-            answer: ChannelAllocationAnswer::Refused(Refusal {
+            answer: Err(Refusal {
                 number: refusal::BAD_WINDOW,
                 offset: 0,
             }),
@@ -309,25 +288,25 @@ pub fn from_bitbuf(s: &[u8], c: Cursor) -> ChannelAllocationRead
     if refusal.number != 0 {
         return ChannelAllocationRead {
             cursor: c,
-            answer: ChannelAllocationAnswer::Refused(refusal),
+            answer: Err(refusal),
         };
     }
     ChannelAllocationRead {
         cursor: codec::moved_by(c, after.at),
-        answer: ChannelAllocationAnswer::Read(element),
+        answer: Ok(element),
     }
 }
 
 // Why a frame-18 pattern is not written beside a monitoring pattern, or 0.
-fn frame18_refusal(mon_pattern: u8, p: Frame18Pattern) -> u8
+fn frame18_refusal(mon_pattern: u8, p: Option<u8>) -> u8
     ensures { result ≡ frame18_refusal mon_pattern p }
 {
     if mon_pattern != 0 {
         return 0;
     }
     match p {
-        Frame18Pattern::Without => refusal::NO_FRAME_18_PATTERN,
-        Frame18Pattern::Pattern(v) => {
+        None => refusal::NO_FRAME_18_PATTERN,
+        Some(v) => {
             if 3 < v {
                 return refusal::VALUE_TOO_WIDE;
             }
@@ -374,14 +353,14 @@ pub fn allocation_len(e: ChanAllocElement) -> usize
 }
 
 // The bits that a channel allocation is written as.
-pub fn compute_len(e: ChanAllocElement) -> ChanAllocLen
+pub fn compute_len(e: ChanAllocElement) -> Result<Bits, u8>
     ensures { result ≡ compute_len e }
 {
     let number = len_refusal(e);
     if number != 0 {
-        return ChanAllocLen::Refused(number);
+        return Err(number);
     }
-    ChanAllocLen::Len(Bits(allocation_len(e) as u16))
+    Ok(Bits(allocation_len(e) as u16))
 }
 
 // The first 23 bits of a channel allocation as one number.

@@ -6,10 +6,10 @@ ghost use Rattle.std.specs.Prelude.{◌≡◌};
 ghost use Rattle.tetra_core.specs.BitBuffer.{read_bits, peek_at, write_bits, written, copy_bits, copied};
 
 use tetra_core::bitbuffer;
-use tetra_core::bitbuffer::{BitsAnswer, Cursor, Outcome};
+use tetra_core::bitbuffer::Cursor;
 
 // Reads a field of num_bits bits, 64 at most.
-pub fn read_field(s: &[u8], c: &mut Cursor, num_bits: usize) -> BitsAnswer
+pub fn read_field(s: &[u8], c: &mut Cursor, num_bits: usize) -> Result<u64, Refusal>
     ensures { (result ≡ (read_bits s.now c.old num_bits).answer)
         × (c.new ≡ (read_bits s.now c.old num_bits).cursor) }
 {
@@ -19,7 +19,7 @@ pub fn read_field(s: &[u8], c: &mut Cursor, num_bits: usize) -> BitsAnswer
 }
 
 // Reads one bit.
-pub fn read_bit(s: &[u8], c: &mut Cursor) -> BitsAnswer
+pub fn read_bit(s: &[u8], c: &mut Cursor) -> Result<u64, Refusal>
     ensures { (result ≡ (read_bits s.now c.old 1).answer)
         × (c.new ≡ (read_bits s.now c.old 1).cursor) }
 {
@@ -27,7 +27,7 @@ pub fn read_bit(s: &[u8], c: &mut Cursor) -> BitsAnswer
 }
 
 // Reads a field and leaves the cursor before it.
-pub fn peek_field(s: &[u8], c: &mut Cursor, num_bits: usize) -> BitsAnswer
+pub fn peek_field(s: &[u8], c: &mut Cursor, num_bits: usize) -> Result<u64, Refusal>
     ensures { (result ≡ (peek_at s.now c.old c.old.pos num_bits).answer)
         × (c.new ≡ (peek_at s.now c.old c.old.pos num_bits).cursor) }
 {
@@ -37,7 +37,7 @@ pub fn peek_field(s: &[u8], c: &mut Cursor, num_bits: usize) -> BitsAnswer
 }
 
 // Writes value as a field of num_bits bits, 64 at most.
-pub fn write_field(s: &mut [u8], c: &mut Cursor, value: u64, num_bits: usize) -> Outcome
+pub fn write_field(s: &mut [u8], c: &mut Cursor, value: u64, num_bits: usize) -> Result<(), u8>
     ensures { (result ≡ (write_bits s.old c.old value num_bits).answer)
         × (c.new ≡ (write_bits s.old c.old value num_bits).cursor)
         × (s.new ≡ written s.old c.old value num_bits) }
@@ -48,7 +48,7 @@ pub fn write_field(s: &mut [u8], c: &mut Cursor, value: u64, num_bits: usize) ->
 }
 
 // Copies num_bits bits of s at its cursor c into t at its cursor d, and moves both on.
-pub fn copy_bits(t: &mut [u8], d: &mut Cursor, s: &[u8], c: &mut Cursor, num_bits: usize) -> Outcome
+pub fn copy_bits(t: &mut [u8], d: &mut Cursor, s: &[u8], c: &mut Cursor, num_bits: usize) -> Result<(), u8>
     ensures { (result ≡ (copy_bits t.old d.old s.now c.old num_bits).answer)
         × (d.new ≡ (copy_bits t.old d.old s.now c.old num_bits).cursor)
         × (c.new ≡ (copy_bits t.old d.old s.now c.old num_bits).source)

@@ -5,7 +5,7 @@
 mod two;
 
 use std::io;
-use tetra_core::bitbuffer::{BitsAnswer, Cursor};
+use tetra_core::bitbuffer::Cursor;
 
 const SAMPLE: [u8; 17] = [
     0x12, 0x34, 0x56, 0x78, 0x9a, 0xbc, 0xde, 0xf0, 0x11, 0x23, 0x45, 0x67, 0x89, 0xab, 0xcd, 0xef,
@@ -20,10 +20,10 @@ fn number(rt: &impl Print, before: &str, n: u64) -> io::Result<()> {
     print!(rt; "{before}{n}")
 }
 
-fn answer(rt: &impl Print, a: BitsAnswer) -> io::Result<()> {
+fn answer(rt: &impl Print, a: Result<u64, Refusal>) -> io::Result<()> {
     match a {
-        BitsAnswer::Value(v) => print!(rt; " {v:x}"),
-        BitsAnswer::Refused(r) => {
+        Ok(v) => print!(rt; " {v:x}"),
+        Err(r) => {
             number(rt, " refused ", r.number as u64)?;
             number(rt, " ", r.offset as u64)
         }

@@ -2,13 +2,13 @@
 ghost use Rattle.std.specs.Prelude.{◌≡◌};
 ghost use Rattle.lent_cursor.specs.Two.{two_of};
 
-use tetra_core::bitbuffer::{BitsAnswer, Cursor};
+use tetra_core::bitbuffer::Cursor;
 
 // Two fields in a row, and the cursor after them.
 #[derive(Clone, Copy)]
 pub(crate) struct Two {
-    pub(crate) first: BitsAnswer,
-    pub(crate) second: BitsAnswer,
+    pub(crate) first: Result<u64, Refusal>,
+    pub(crate) second: Result<u64, Refusal>,
     pub(crate) cursor: Cursor,
 }
 

@@ -9,15 +9,11 @@ use block_rules::MOST_BITS;
 use block_rules::to_add::{LengthIndication, ResourceToAdd};
 use mac_block::writer;
 use mac_resource::mac_resource::MacResource;
-use optional_elements::allocation::OptionalAllocation;
-use optional_elements::power_control::OptionalPower;
-use optional_elements::slot_granting::OptionalGrant;
 use std::fs::{File, Files};
 use std::io::Write;
 use std::rt::Runtime;
 use std::{env, io};
 use tetra_core::address::{DownlinkAddress, SsiType};
-use tetra_core::bitbuffer::Outcome;
 
 fn text(rt: &impl Print, t: &[u8]) -> io::Result<()> {
     io::writer(rt).write_all(t)
@@ -61,9 +57,9 @@ fn to_ssi_1() -> ResourceToAdd {
         random_access_flag: false,
         length_ind: 0,
         addr: DownlinkAddress::Ssi(SsiType::Ssi, 1),
-        power_control_element: OptionalPower::Without,
-        slot_granting_element: OptionalGrant::Without,
-        chan_alloc_element: OptionalAllocation::Without,
+        power_control_element: None,
+        slot_granting_element: None,
+        chan_alloc_element: None,
     };
     ResourceToAdd {
         header,
@@ -85,13 +81,13 @@ fn add_one(rt: &impl Print, content_bits: usize) -> io::Result<()> {
     let written = writer::add(&mut block, MOST_BITS, 0, to_ssi_1(), &content, content_bits);
     let answer = written.answer;
     match answer {
-        Outcome::Done => {
+        Ok(()) => {
             text(rt, b" octets ")?;
             number(rt, length_of(block[0], block[1]))?;
             text(rt, b"\n")?;
             list(rt, &block)
         }
-        Outcome::Refused(n) => {
+        Err(n) => {
             text(rt, b" refused ")?;
             number(rt, word::widen(n))?;
             text(rt, b"\n")

@@ -1,6 +1,6 @@
 -- MAC-ACCESS (document 01): "Type 1 (0), fill 1, encrypted 1, address type 2 (0 SSI, 1 label, 2 USSI, 3 SMI), address, option flag 1; if set,
 -- selector 1: 0 and length 5, or 1, fragment 1, reservation 4."
-use Rattle.std.specs.Prelude.{ℕ, ◌+◌, List, [], ◌∷◌, ◌++◌, Bool, false, drop, eqb, leb}
+use Rattle.std.specs.Prelude.{ℕ, ◌+◌, List, [], ◌∷◌, ◌++◌, Bool, false, drop, eqb, leb, Err, Ok}
 use Rattle.bits.specs.Bits.{digit}
 use Rattle.tetra_core.specs.Refusal.{unless}
 use Rattle.tetra_core.specs.declared.bitbuffer.Cursor.{Cursor}
@@ -16,7 +16,6 @@ use Rattle.tetra_fields.specs.declared.fields.uplink_head.UplinkHead.{UplinkHead
 use Rattle.mac_access.specs.declared.mac_access.MacAccessOption.{MacAccessOption}
 use Rattle.mac_access.specs.declared.mac_access.MacAccessOption.TheVariants.{Without, LengthInd, CapacityRequest}
 use Rattle.mac_access.specs.declared.mac_access.MacAccess.{MacAccess}
-use Rattle.mac_access.specs.declared.mac_access.MacAccessAnswer.{MacAccessAnswer}
 use Rattle.mac_access.specs.declared.mac_access.MacAccessRead.{MacAccessRead}
 use Rattle.mac_access.specs.declared.mac_access.MacAccessPart.{MacAccessPart}
 use Rattle.mac_access.specs.declared.mac_access.OptionPart.{OptionPart}
@@ -75,7 +74,7 @@ abbrev pub mac_access_out : List Bool → MacAccessPart → Out MacAccess
 mac_access_out h p = part_out p.refusal (got p.header (drop p.next h) p.next)
 
 unfoldable pub mac_access_at : List ℕ → Cursor → MacAccessRead
-mac_access_at = at_cursor read_mac_access (λ c a. record { cursor = c; answer = a }) MacAccessAnswer.Read MacAccessAnswer.Refused
+mac_access_at = at_cursor read_mac_access (λ c a. record { cursor = c; answer = a }) Ok Err
 
 -- a length of 0 marks a null PDU, and a fragment flag the first fragment
 abbrev pub is_null_pdu : MacAccessOption → Bool

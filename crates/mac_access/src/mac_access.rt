@@ -60,18 +60,11 @@ pub struct MacAccess {
     pub option: MacAccessOption,
 }
 
-// A MAC-ACCESS, or why there is none.
-#[derive(Clone, Copy)]
-pub enum MacAccessAnswer {
-    Read(MacAccess),
-    Refused(Refusal),
-}
-
 // What a read answers, and the cursor after it.
 #[derive(Clone, Copy)]
 pub struct MacAccessRead {
     pub cursor: Cursor,
-    pub answer: MacAccessAnswer,
+    pub answer: Result<MacAccess, Refusal>,
 }
 
 // A MAC-ACCESS: why it is not read, or number 0; and the offset after it.
@@ -237,7 +230,7 @@ pub fn from_bitbuf(s: &[u8], c: Cursor) -> MacAccessRead
     if !bitbuffer::good_window(s.len(), c) {
         return MacAccessRead {
             cursor: c,
-            answer: MacAccessAnswer::Refused(Refusal {
+            answer: Err(Refusal {
                 number: refusal::BAD_WINDOW,
                 offset: 0,
             }),
@@ -249,12 +242,12 @@ pub fn from_bitbuf(s: &[u8], c: Cursor) -> MacAccessRead
     if refusal.number != 0 {
         return MacAccessRead {
             cursor: c,
-            answer: MacAccessAnswer::Refused(refusal),
+            answer: Err(refusal),
         };
     }
     MacAccessRead {
         cursor: codec::moved_by(c, part.next),
-        answer: MacAccessAnswer::Read(header),
+        answer: Ok(header),
     }
 }
 

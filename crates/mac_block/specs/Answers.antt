@@ -1,5 +1,5 @@
 -- What the calls on a block answer: each case of the definitions as a case of the declared types, bits of the PDU as bits of the block.
-use Rattle.std.specs.Prelude.{ℕ, ◌+◌, length}
+use Rattle.std.specs.Prelude.{ℕ, ◌+◌, length, None, Some}
 use Rattle.tetra_core.specs.BitBuffer.{outcome}
 use Rattle.tetra_core.specs.declared.refusal.Refusal.{Refusal}
 use Rattle.block_rules.specs.Codec.{HeaderWriter}
@@ -7,7 +7,6 @@ use Rattle.block_rules.specs.Read.{Reading}
 use Rattle.block_rules.specs.Walk.{Pdu, Step}
 use Rattle.block_rules.specs.Writer.{Writer, finish_refusal, finish_to, Add, add_refusal, add_to}
 use Rattle.block_rules.specs.Downlink.{DownlinkHeader}
-use Rattle.mac_block.specs.declared.reader.PduEnd.{PduEnd}
 use Rattle.mac_block.specs.declared.reader.BlockEntry.{BlockEntry}
 use Rattle.mac_block.specs.declared.reader.StepAnswer.{StepAnswer}
 use Rattle.mac_block.specs.declared.writer.Written.{Written}
@@ -21,12 +20,12 @@ refusal j o = record { number = j; offset = o }
 unfoldable pub sized_entry : (p s : ℕ) → Reading DownlinkHeader → BlockEntry
 sized_entry p s (Reading.read h m content fill) =
     BlockEntry.Resource (record { bit = p; end = p + s; header = h; content_start = p + m; content_end = p + m + length content })
-sized_entry p s (Reading.refused j o) = BlockEntry.Refused (record { bit = p; end = PduEnd.At (p + s); refusal = refusal j o })
+sized_entry p s (Reading.refused j o) = BlockEntry.Refused (record { bit = p; end = Some (p + s); refusal = refusal j o })
 
 unfoldable pub entry_of : (p : ℕ) → Pdu DownlinkHeader → BlockEntry
 entry_of p (Pdu.null l) = BlockEntry.Null p
 entry_of p (Pdu.sized s r) = sized_entry p s r
-entry_of p (Pdu.unsized j o) = BlockEntry.Refused (record { bit = p; end = PduEnd.Unknown; refusal = refusal j o })
+entry_of p (Pdu.unsized j o) = BlockEntry.Refused (record { bit = p; end = None; refusal = refusal j o })
 
 unfoldable pub step_answer : Step DownlinkHeader → StepAnswer
 step_answer (Step.refused j o) = StepAnswer.Refused (refusal j o)

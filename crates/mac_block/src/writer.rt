@@ -18,15 +18,14 @@ use block_rules::{LEAST_BITS, MOST_BITS};
 use codec::encoded;
 use codec::encoded::EncodedHeader;
 use mac_resource::mac_resource as resource;
-use tetra_core::bitbuffer::Outcome;
-use tetra_core::quantity::{OctetCount, Octets};
+use tetra_core::quantity::Octets;
 use tetra_core::{quantity, refusal};
 
 // The writer's bit after a call, and whether the call was done.
 #[derive(Clone, Copy)]
 pub struct Written {
     pub bit: usize,
-    pub answer: Outcome,
+    pub answer: Result<(), u8>,
 }
 
 // The first 64 bits of what closes a block that has room for a null PDU: the null PDU, 00 10 h, and fill.
@@ -34,13 +33,13 @@ const CLOSING: u64 = 0x0010800000000000;
 
 // What a call answers that a number refuses, or 0 if nothing does. One place makes the answer of a call: with two, the
 // compiler keeps it in memory.
-fn outcome(number: u8) -> Outcome
+fn outcome(number: u8) -> Result<(), u8>
     ensures { result ≡ outcome number }
 {
     if number != 0 {
-        return Outcome::Refused(number);
+        return Err(number);
     }
-    Outcome::Done
+    Ok(())
 }
 
 // Whether a writer of a block of so many bits can stand at a bit: on an octet, or at the end.
@@ -62,9 +61,9 @@ fn octets_of(total: usize) -> Octets
     ensures { (result.0 ≡ octets_of total) × (result.0 ≤ 61) }
 {
     match quantity::count_octets(total) {
-        OctetCount::Counted(octets, _) => octets,
+        Ok(counted) => counted.octets,
         // No more than 61 octets are asked for.
-        OctetCount::Refused(_) => Octets(0),
+        Err(_) => Octets(0),
     }
 }
 

@@ -1,6 +1,6 @@
 -- MAC-DATA (document 01): "Type 2 (0), fill 1, encrypted 1, address as above, selector 1: 0 and length 6, or 1, fragment 1, reservation 4, reserved
 -- 1. The reserved bit is written 0, read as either."
-use Rattle.std.specs.Prelude.{ℕ, ◌+◌, ◌-◌, List, [], ◌∷◌, ◌++◌, Bool, false, length, drop, get_or, eqb, leb}
+use Rattle.std.specs.Prelude.{ℕ, ◌+◌, ◌-◌, List, [], ◌∷◌, ◌++◌, Bool, false, length, drop, get_or, eqb, leb, Err, Ok}
 use Rattle.bits.specs.Bits.{digit}
 use Rattle.tetra_core.specs.Refusal.{unless}
 use Rattle.tetra_core.specs.declared.bitbuffer.Cursor.{Cursor}
@@ -16,7 +16,6 @@ use Rattle.tetra_fields.specs.declared.fields.uplink_head.UplinkHead.{UplinkHead
 use Rattle.mac_data.specs.declared.mac_data.MacDataOption.{MacDataOption}
 use Rattle.mac_data.specs.declared.mac_data.MacDataOption.TheVariants.{LengthInd, CapacityRequest}
 use Rattle.mac_data.specs.declared.mac_data.MacData.{MacData}
-use Rattle.mac_data.specs.declared.mac_data.MacDataAnswer.{MacDataAnswer}
 use Rattle.mac_data.specs.declared.mac_data.MacDataRead.{MacDataRead}
 use Rattle.mac_data.specs.declared.mac_data.MacDataPart.{MacDataPart}
 use Rattle.mac_data.specs.declared.mac_data.OptionPart.{OptionPart}
@@ -67,7 +66,7 @@ abbrev pub mac_data_out : List Bool → MacDataPart → Out MacData
 mac_data_out h p = part_out p.refusal (got p.header (drop p.next h) p.next)
 
 unfoldable pub mac_data_at : List ℕ → Cursor → MacDataRead
-mac_data_at = at_cursor read_mac_data (λ c a. record { cursor = c; answer = a }) MacDataAnswer.Read MacDataAnswer.Refused
+mac_data_at = at_cursor read_mac_data (λ c a. record { cursor = c; answer = a }) Ok Err
 
 -- ---- what is written
 

@@ -52,18 +52,11 @@ pub struct MacData {
     pub option: MacDataOption,
 }
 
-// A MAC-DATA, or why there is none.
-#[derive(Clone, Copy)]
-pub enum MacDataAnswer {
-    Read(MacData),
-    Refused(Refusal),
-}
-
 // What a read answers, and the cursor after it.
 #[derive(Clone, Copy)]
 pub struct MacDataRead {
     pub cursor: Cursor,
-    pub answer: MacDataAnswer,
+    pub answer: Result<MacData, Refusal>,
 }
 
 // A MAC-DATA: why it is not read, or number 0; and the offset after it.
@@ -188,7 +181,7 @@ pub fn from_bitbuf(s: &[u8], c: Cursor) -> MacDataRead
     if !bitbuffer::good_window(s.len(), c) {
         return MacDataRead {
             cursor: c,
-            answer: MacDataAnswer::Refused(Refusal {
+            answer: Err(Refusal {
                 number: refusal::BAD_WINDOW,
                 offset: 0,
             }),
@@ -200,12 +193,12 @@ pub fn from_bitbuf(s: &[u8], c: Cursor) -> MacDataRead
     if refusal.number != 0 {
         return MacDataRead {
             cursor: c,
-            answer: MacDataAnswer::Refused(refusal),
+            answer: Err(refusal),
         };
     }
     MacDataRead {
         cursor: codec::moved_by(c, part.next),
-        answer: MacDataAnswer::Read(header),
+        answer: Ok(header),
     }
 }
 

@@ -1,5 +1,5 @@
 -- The elements of a MAC-RESOURCE (document 01): "three flags, each followed by its element if set: power 4, slot grant 8, channel allocation."
-use Rattle.std.specs.Prelude.{ℕ, ◌+◌, List, [], ◌∷◌, ◌++◌, Bool, true, false, ◌&&◌, eqb, leb}
+use Rattle.std.specs.Prelude.{ℕ, ◌+◌, List, [], ◌∷◌, ◌++◌, Bool, true, false, ◌&&◌, eqb, leb, None, Option, Some}
 use Rattle.tetra_core.specs.Refusal.{first}
 use Rattle.codec.specs.declared.Ahead.{Ahead}
 use Rattle.codec.specs.Ahead.{next_bits, part_after}
@@ -7,9 +7,6 @@ use Rattle.codec.specs.Reader.{Out, Reader, done, ◌>>=◌}
 use Rattle.codec.specs.Row.{row_bits}
 use Rattle.optional_elements.specs.PowerControl.{power_most, power_len, read_power, power_refusal, power_row}
 use Rattle.optional_elements.specs.GrantAndAllocation.{grant_and_allocation_most, grant_and_allocation_len, read_grant_and_allocation, grant_and_allocation_refusal, grant_and_allocation_bits, normal_grant_and_allocation}
-use Rattle.optional_elements.specs.declared.power_control.OptionalPower.{OptionalPower}
-use Rattle.optional_elements.specs.declared.slot_granting.OptionalGrant.{OptionalGrant}
-use Rattle.optional_elements.specs.declared.allocation.OptionalAllocation.{OptionalAllocation}
 use Rattle.optional_elements.specs.declared.elements.Elements.{Elements}
 use Rattle.optional_elements.specs.declared.elements.ElementsPart.{ElementsPart}
 
@@ -28,25 +25,25 @@ elements_len e = power_len e.power_control_element + grant_and_allocation_len e.
 
 abbrev pub no_elements : Elements
 no_elements = record {
-  power_control_element = OptionalPower.Without;
-  grant_and_allocation = record { slot_granting_element = OptionalGrant.Without; chan_alloc_element = OptionalAllocation.Without };
+  power_control_element = None;
+  grant_and_allocation = record { slot_granting_element = None; chan_alloc_element = None };
 }
 
 abbrev pub is_bare : Elements → Bool
 is_bare e =
     noPower e.power_control_element && noGranting e.grant_and_allocation.slot_granting_element && noAllocation e.grant_and_allocation.chan_alloc_element
   where
-    noPower : OptionalPower → Bool
-    noPower OptionalPower.Without = true
-    noPower (OptionalPower.Level v) = false
+    noPower : Option ℕ → Bool
+    noPower None = true
+    noPower (Some v) = false
 
-    noGranting : OptionalGrant → Bool
-    noGranting OptionalGrant.Without = true
-    noGranting (OptionalGrant.Element g) = false
+    noGranting : Option BasicSlotgrant → Bool
+    noGranting None = true
+    noGranting (Some g) = false
 
-    noAllocation : OptionalAllocation → Bool
-    noAllocation OptionalAllocation.Without = true
-    noAllocation (OptionalAllocation.Element e) = false
+    noAllocation : Option ChanAllocElement → Bool
+    noAllocation None = true
+    noAllocation (Some e) = false
 
 -- the three flags are there, and none of them is set
 abbrev pub no_element : Ahead → Bool

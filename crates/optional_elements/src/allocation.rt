@@ -11,18 +11,11 @@ use codec::piece::Piece;
 use codec::{Ahead, piece};
 use tetra_core::refusal::Refusal;
 
-#[derive(Clone, Copy)]
-pub enum OptionalAllocation {
-    Without,
-    // 25 or 27
-    Element(ChanAllocElement),
-}
-
 // The channel allocation as a part of a header: why it is not read, or number 0; and what is ahead after it.
 #[derive(Clone, Copy)]
 pub struct AllocationPart {
     pub refusal: Refusal,
-    pub chan_alloc_element: OptionalAllocation,
+    pub chan_alloc_element: Option<ChanAllocElement>,
     pub after: Ahead,
 }
 
@@ -34,7 +27,7 @@ pub fn read_allocation(a: Ahead) -> AllocationPart
     if a.left < 1 {
         return AllocationPart {
             refusal: codec::field_past_end(a.at),
-            chan_alloc_element: OptionalAllocation::Without,
+            chan_alloc_element: None,
             after: a,
         };
     }
@@ -42,7 +35,7 @@ pub fn read_allocation(a: Ahead) -> AllocationPart
     if codec::next_bits(a, 1) == 0 {
         return AllocationPart {
             refusal: codec::no_refusal(),
-            chan_alloc_element: OptionalAllocation::Without,
+            chan_alloc_element: None,
             after: b,
         };
     }
@@ -52,48 +45,48 @@ pub fn read_allocation(a: Ahead) -> AllocationPart
     let after = part.after;
     AllocationPart {
         refusal,
-        chan_alloc_element: OptionalAllocation::Element(element),
+        chan_alloc_element: Some(element),
         after,
     }
 }
 
 // Why it is not written, or 0.
-pub fn allocation_refusal(a: OptionalAllocation) -> u8
+pub fn allocation_refusal(a: Option<ChanAllocElement>) -> u8
     ensures { result ≡ allocation_refusal a }
 {
     match a {
-        OptionalAllocation::Without => 0,
-        OptionalAllocation::Element(e) => element::channel_allocation_refusal(e),
+        None => 0,
+        Some(e) => element::channel_allocation_refusal(e),
     }
 }
 
 // The bits of the flag with its element.
-pub fn allocation_len(a: OptionalAllocation) -> usize
+pub fn allocation_len(a: Option<ChanAllocElement>) -> usize
     ensures { (result ≡ allocation_len a) × (result ≤ allocation_most) }
 {
     match a {
-        OptionalAllocation::Without => 1,
-        OptionalAllocation::Element(e) => 1 + element::allocation_len(e),
+        None => 1,
+        Some(e) => 1 + element::allocation_len(e),
     }
 }
 
 // Why they are not counted, or 0.
-pub fn allocation_len_refusal(a: OptionalAllocation) -> u8
+pub fn allocation_len_refusal(a: Option<ChanAllocElement>) -> u8
     ensures { result ≡ allocation_len_refusal a }
 {
     match a {
-        OptionalAllocation::Without => 0,
-        OptionalAllocation::Element(e) => element::len_refusal(e),
+        None => 0,
+        Some(e) => element::len_refusal(e),
     }
 }
 
-pub fn allocation_piece(a: OptionalAllocation) -> Piece
+pub fn allocation_piece(a: Option<ChanAllocElement>) -> Piece
     requires { allocation_refusal a ≡ 0 }
     ensures { Holds (row_bits (flag_row a) ++ allocation_bits a) (allocation_len a) result }
 {
     match a {
-        OptionalAllocation::Without => Piece { value: 0, bits: 1 },
-        OptionalAllocation::Element(e) => piece::joined(
+        None => Piece { value: 0, bits: 1 },
+        Some(e) => piece::joined(
             Piece { value: 1, bits: 1 },
             Piece {
                 value: element::channel_allocation_word(e),

@@ -7,10 +7,7 @@ ghost use Rattle.codec.specs.Piece.{Holds};
 ghost use Rattle.codec.specs.Encoded.{EncodesOne};
 ghost use Rattle.optional_elements.specs.Elements.{no_elements, flags_len, elements_most, no_element, is_bare, read_elements, elements_out, elements_refusal, elements_len, elements_bits};
 
-use crate::allocation::OptionalAllocation;
 use crate::grant_and_allocation::GrantAndAllocation;
-use crate::power_control::OptionalPower;
-use crate::slot_granting::OptionalGrant;
 use crate::{grant_and_allocation, power_control};
 use codec::encoded::Encoded;
 use codec::piece::Piece;
@@ -26,7 +23,7 @@ pub const FLAGS: usize = 3;
 #[derive(Clone, Copy)]
 pub struct Elements {
     // 1, and 4 if set
-    pub power_control_element: OptionalPower,
+    pub power_control_element: Option<u8>,
     pub grant_and_allocation: GrantAndAllocation,
 }
 
@@ -42,10 +39,10 @@ fn no_elements() -> Elements
     ensures { result ≡ no_elements }
 {
     Elements {
-        power_control_element: OptionalPower::Without,
+        power_control_element: None,
         grant_and_allocation: GrantAndAllocation {
-            slot_granting_element: OptionalGrant::Without,
-            chan_alloc_element: OptionalAllocation::Without,
+            slot_granting_element: None,
+            chan_alloc_element: None,
         },
     }
 }
@@ -115,12 +112,12 @@ fn is_bare(e: Elements) -> bool
     let granting = behind.slot_granting_element;
     let allocation = behind.chan_alloc_element;
     match power {
-        OptionalPower::Level(_) => false,
-        OptionalPower::Without => match granting {
-            OptionalGrant::Element(_) => false,
-            OptionalGrant::Without => match allocation {
-                OptionalAllocation::Element(_) => false,
-                OptionalAllocation::Without => true,
+        Some(_) => false,
+        None => match granting {
+            Some(_) => false,
+            None => match allocation {
+                Some(_) => false,
+                None => true,
             },
         },
     }

@@ -4,8 +4,6 @@ ghost use Rattle.codec.specs.Ahead.{Ready, ReadsNext, Onward};
 ghost use Rattle.codec.specs.Piece.{Holds};
 ghost use Rattle.optional_elements.specs.GrantAndAllocation.{grant_and_allocation_most, read_grant_and_allocation, grant_and_allocation_out, grant_and_allocation_refusal, grant_and_allocation_len, grant_and_allocation_bits};
 
-use crate::allocation::OptionalAllocation;
-use crate::slot_granting::OptionalGrant;
 use crate::{allocation, slot_granting};
 use codec::piece::Piece;
 use codec::{Ahead, piece};
@@ -15,9 +13,9 @@ use tetra_core::refusal::Refusal;
 #[derive(Clone, Copy)]
 pub struct GrantAndAllocation {
     // 1, and 8 if set
-    pub slot_granting_element: OptionalGrant,
+    pub slot_granting_element: Option<BasicSlotgrant>,
     // 1, and 25 or 27 if set
-    pub chan_alloc_element: OptionalAllocation,
+    pub chan_alloc_element: Option<ChanAllocElement>,
 }
 
 // Both as a part of a header: why they are not read, or number 0; and what is ahead after them.
@@ -35,8 +33,8 @@ fn refused(refusal: Refusal, after: Ahead) -> GrantAndAllocationPart
     GrantAndAllocationPart {
         refusal,
         elements: GrantAndAllocation {
-            slot_granting_element: OptionalGrant::Without,
-            chan_alloc_element: OptionalAllocation::Without,
+            slot_granting_element: None,
+            chan_alloc_element: None,
         },
         after,
     }

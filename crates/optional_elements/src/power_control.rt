@@ -17,18 +17,11 @@ const POWER_BITS: usize = 1 + LEVEL_BITS;
 
 const FLAG: u64 = 1 << 4;
 
-#[derive(Clone, Copy)]
-pub enum OptionalPower {
-    Without,
-    // 4 bits
-    Level(u8),
-}
-
 // The power control as a part of a header: why it is not read, or number 0; and what is ahead after it.
 #[derive(Clone, Copy)]
 pub struct PowerPart {
     pub refusal: Refusal,
-    pub power_control_element: OptionalPower,
+    pub power_control_element: Option<u8>,
     pub after: Ahead,
 }
 
@@ -38,7 +31,7 @@ fn past_end(offset: usize, after: Ahead) -> PowerPart
 {
     PowerPart {
         refusal: codec::field_past_end(offset),
-        power_control_element: OptionalPower::Without,
+        power_control_element: None,
         after,
     }
 }
@@ -56,7 +49,7 @@ pub fn read_power(a: Ahead) -> PowerPart
     if codec::next_bits(a, 1) == 0 {
         return PowerPart {
             refusal: codec::no_refusal(),
-            power_control_element: OptionalPower::Without,
+            power_control_element: None,
             after: b,
         };
     }
@@ -66,18 +59,18 @@ pub fn read_power(a: Ahead) -> PowerPart
     let level = codec::next_bits(b, LEVEL_BITS);
     PowerPart {
         refusal: codec::no_refusal(),
-        power_control_element: OptionalPower::Level(level as u8),
+        power_control_element: Some(level as u8),
         after: codec::advance(b, LEVEL_BITS),
     }
 }
 
 // Why it is not written, or 0.
-pub fn power_refusal(p: OptionalPower) -> u8
+pub fn power_refusal(p: Option<u8>) -> u8
     ensures { result ≡ power_refusal p }
 {
     match p {
-        OptionalPower::Without => 0,
-        OptionalPower::Level(v) => {
+        None => 0,
+        Some(v) => {
             if v < 16 {
                 return 0;
             }
@@ -87,22 +80,22 @@ pub fn power_refusal(p: OptionalPower) -> u8
 }
 
 // The bits of the flag with its element.
-pub fn power_len(p: OptionalPower) -> usize
+pub fn power_len(p: Option<u8>) -> usize
     ensures { (result ≡ power_len p) × (result ≤ power_most) }
 {
     match p {
-        OptionalPower::Without => 1,
-        OptionalPower::Level(_) => POWER_BITS,
+        None => 1,
+        Some(_) => POWER_BITS,
     }
 }
 
-pub fn power_piece(p: OptionalPower) -> Piece
+pub fn power_piece(p: Option<u8>) -> Piece
     requires { power_refusal p ≡ 0 }
     ensures { Holds (row_bits (power_row p)) (power_len p) result }
 {
     match p {
-        OptionalPower::Without => Piece { value: 0, bits: 1 },
-        OptionalPower::Level(v) => Piece {
+        None => Piece { value: 0, bits: 1 },
+        Some(v) => Piece {
             value: 1 * FLAG + v as u64,
             bits: POWER_BITS,
         },

@@ -18,18 +18,11 @@ const GRANTING_BITS: usize = 1 + GRANT_BITS;
 
 const FLAG: u64 = 1 << 8;
 
-#[derive(Clone, Copy)]
-pub enum OptionalGrant {
-    Without,
-    // 8
-    Element(BasicSlotgrant),
-}
-
 // The slot granting as a part of a header: why it is not read, or number 0; and what is ahead after it.
 #[derive(Clone, Copy)]
 pub struct GrantingPart {
     pub refusal: Refusal,
-    pub slot_granting_element: OptionalGrant,
+    pub slot_granting_element: Option<BasicSlotgrant>,
     pub after: Ahead,
 }
 
@@ -39,7 +32,7 @@ fn refused(refusal: Refusal, after: Ahead) -> GrantingPart
 {
     GrantingPart {
         refusal,
-        slot_granting_element: OptionalGrant::Without,
+        slot_granting_element: None,
         after,
     }
 }
@@ -56,7 +49,7 @@ pub fn read_granting(a: Ahead) -> GrantingPart
     if codec::next_bits(a, 1) == 0 {
         return GrantingPart {
             refusal: codec::no_refusal(),
-            slot_granting_element: OptionalGrant::Without,
+            slot_granting_element: None,
             after: b,
         };
     }
@@ -68,38 +61,38 @@ pub fn read_granting(a: Ahead) -> GrantingPart
     }
     GrantingPart {
         refusal,
-        slot_granting_element: OptionalGrant::Element(grant),
+        slot_granting_element: Some(grant),
         after: codec::advance(b, GRANT_BITS),
     }
 }
 
 // Why it is not written, or 0.
-pub fn granting_refusal(g: OptionalGrant) -> u8
+pub fn granting_refusal(g: Option<BasicSlotgrant>) -> u8
     ensures { result ≡ granting_refusal g }
 {
     match g {
-        OptionalGrant::Without => 0,
-        OptionalGrant::Element(e) => basic_slotgrant::slotgrant_refusal(e),
+        None => 0,
+        Some(e) => basic_slotgrant::slotgrant_refusal(e),
     }
 }
 
 // The bits of the flag with its element.
-pub fn granting_len(g: OptionalGrant) -> usize
+pub fn granting_len(g: Option<BasicSlotgrant>) -> usize
     ensures { (result ≡ granting_len g) × (result ≤ granting_most) }
 {
     match g {
-        OptionalGrant::Without => 1,
-        OptionalGrant::Element(_) => GRANTING_BITS,
+        None => 1,
+        Some(_) => GRANTING_BITS,
     }
 }
 
-pub fn granting_piece(g: OptionalGrant) -> Piece
+pub fn granting_piece(g: Option<BasicSlotgrant>) -> Piece
     requires { granting_refusal g ≡ 0 }
     ensures { Holds (row_bits (granting_row g)) (granting_len g) result }
 {
     match g {
-        OptionalGrant::Without => Piece { value: 0, bits: 1 },
-        OptionalGrant::Element(e) => Piece {
+        None => Piece { value: 0, bits: 1 },
+        Some(e) => Piece {
             value: 1 * FLAG + basic_slotgrant::slotgrant_word(e),
             bits: GRANTING_BITS,
         },

@@ -1,5 +1,5 @@
 // The numbers that a call is given, and its answer as a status and words: the window first, start, pos and end, and then the value.
-use tetra_core::bitbuffer::{BitsAnswer, BitsRead, Cursor, Moved, Opened, Outcome};
+use tetra_core::bitbuffer::{BitsRead, Cursor, Moved};
 use tetra_core::refusal::Refusal;
 
 // The status of a call that there is none of.
@@ -64,20 +64,20 @@ pub(crate) fn put_window(out: &mut [u64; 40], c: Cursor) {
     out[2] = c.end as u64;
 }
 
-pub(crate) fn number(out: &mut [u64; 40], a: BitsAnswer) -> u64 {
+pub(crate) fn number(out: &mut [u64; 40], a: Result<u64, Refusal>) -> u64 {
     match a {
-        BitsAnswer::Value(v) => {
+        Ok(v) => {
             out[3] = v;
             0
         }
-        BitsAnswer::Refused(r) => status(r),
+        Err(r) => status(r),
     }
 }
 
-pub(crate) fn outcome(a: Outcome) -> u64 {
+pub(crate) fn outcome(a: Result<(), u8>) -> u64 {
     match a {
-        Outcome::Done => 0,
-        Outcome::Refused(n) => n as u64,
+        Ok(()) => 0,
+        Err(n) => n as u64,
     }
 }
 
@@ -93,13 +93,13 @@ pub(crate) fn moved(out: &mut [u64; 40], done: Moved) -> u64 {
     outcome(answer)
 }
 
-pub(crate) fn opened(out: &mut [u64; 40], a: Opened) -> u64 {
+pub(crate) fn opened(out: &mut [u64; 40], a: Result<Cursor, Refusal>) -> u64 {
     match a {
-        Opened::Window(c) => {
+        Ok(c) => {
             put_window(out, c);
             0
         }
-        Opened::Refused(r) => status(r),
+        Err(r) => status(r),
     }
 }
 

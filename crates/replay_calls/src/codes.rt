@@ -3,19 +3,19 @@
 use crate::answers;
 use crate::answers::Given;
 use access_assign::enums::access_code;
-use access_assign::enums::access_code::{AccessCode, AccessCodeCase};
-use access_assign::structs::base_frame_length::{BaseFrameLength, BaseFrameLengthCase};
+use access_assign::enums::access_code::AccessCode;
+use access_assign::structs::base_frame_length::BaseFrameLength;
 use access_assign::structs::{access_field, base_frame_length};
 use mac_resource::enums::mac_resource_addr_type as addr_type;
-use mac_resource::enums::mac_resource_addr_type::{AddrTypeCase, MacResourceAddrType};
+use mac_resource::enums::mac_resource_addr_type::MacResourceAddrType;
 use tetra_fields::enums::basic_slotgrant_cap_alloc::{
-    BasicSlotgrantCapAlloc, CapAllocCase, GrantedSlots,
+    BasicSlotgrantCapAlloc, Option<BasicSlotgrantCapAlloc>, GrantedSlots,
 };
 use tetra_fields::enums::basic_slotgrant_granting_delay::{
-    BasicSlotgrantGrantingDelay, GrantingDelayCase,
+    BasicSlotgrantGrantingDelay, Option<BasicSlotgrantGrantingDelay>,
 };
 use tetra_fields::enums::reservation_requirement::{
-    ReqSlotcount, ReservationCase, ReservationRequirement,
+    ReqSlotcount, Option<ReservationRequirement>, ReservationRequirement,
 };
 use tetra_fields::enums::{
     basic_slotgrant_cap_alloc as cap_alloc, basic_slotgrant_granting_delay as delay,
@@ -113,17 +113,17 @@ fn granted(a: BasicSlotgrantCapAlloc) -> u64 {
     }
 }
 
-fn capacity_found(a: CapAllocCase, out: &mut [u64; 40]) -> u64 {
+fn capacity_found(a: Option<BasicSlotgrantCapAlloc>, out: &mut [u64; 40]) -> u64 {
     match a {
-        CapAllocCase::Case(a) => answers::two(out, capacity(a), cap_alloc::into_raw(a)),
-        CapAllocCase::Nothing => 0,
+        Some(a) => answers::two(out, capacity(a), cap_alloc::into_raw(a)),
+        None => 0,
     }
 }
 
-fn delay_found(d: GrantingDelayCase, out: &mut [u64; 40]) -> u64 {
+fn delay_found(d: Option<BasicSlotgrantGrantingDelay>, out: &mut [u64; 40]) -> u64 {
     match d {
-        GrantingDelayCase::Case(d) => answers::two(out, delay_kind(d), delay::into_raw(d)),
-        GrantingDelayCase::Nothing => 0,
+        Some(d) => answers::two(out, delay_kind(d), delay::into_raw(d)),
+        None => 0,
     }
 }
 
@@ -131,33 +131,33 @@ fn reserved(a: ReservationRequirement, out: &mut [u64; 40]) -> u64 {
     answers::two(out, asked(a), reservation::into_raw(a))
 }
 
-fn reservation_found(a: ReservationCase, out: &mut [u64; 40]) -> u64 {
+fn reservation_found(a: Option<ReservationRequirement>, out: &mut [u64; 40]) -> u64 {
     match a {
-        ReservationCase::Case(a) => reserved(a, out),
-        ReservationCase::Nothing => 0,
+        Some(a) => reserved(a, out),
+        None => 0,
     }
 }
 
-fn code_found(a: AccessCodeCase, out: &mut [u64; 40]) -> u64 {
+fn code_found(a: Option<AccessCode>, out: &mut [u64; 40]) -> u64 {
     match a {
-        AccessCodeCase::Case(a) => answers::two(out, code(a), access_code::into_raw(a)),
-        AccessCodeCase::Nothing => 0,
+        Some(a) => answers::two(out, code(a), access_code::into_raw(a)),
+        None => 0,
     }
 }
 
-fn frame_length_found(l: BaseFrameLengthCase, out: &mut [u64; 40]) -> u64 {
+fn frame_length_found(l: Option<BaseFrameLength>, out: &mut [u64; 40]) -> u64 {
     match l {
-        BaseFrameLengthCase::Case(l) => {
+        Some(l) => {
             answers::two(out, frame_length(l), base_frame_length::into_raw(l))
         }
-        BaseFrameLengthCase::Nothing => 0,
+        None => 0,
     }
 }
 
-fn address_found(a: AddrTypeCase, out: &mut [u64; 40]) -> u64 {
+fn address_found(a: Option<MacResourceAddrType>, out: &mut [u64; 40]) -> u64 {
     match a {
-        AddrTypeCase::Case(a) => answers::two(out, address(a), addr_type::into_raw(a)),
-        AddrTypeCase::Nothing => 0,
+        Some(a) => answers::two(out, address(a), addr_type::into_raw(a)),
+        None => 0,
     }
 }
 

@@ -6,19 +6,16 @@ use access_assign::access_assign as assign;
 use access_assign::access_assign::AccessAssign;
 use access_assign::enums::access_assign_dl_usage::AccessAssignDlUsage;
 use access_assign::enums::access_assign_ul_usage::{
-    AccessAssignUlUsage, UplinkMarker, UplinkUsage,
+    AccessAssignUlUsage, Option<u8>, Option<AccessAssignUlUsage>,
 };
 use access_assign::enums::{
-    TrafficChannel, access_assign_dl_usage as dl_usage, access_assign_ul_usage as ul_usage,
+    Option<u8>, access_assign_dl_usage as dl_usage, access_assign_ul_usage as ul_usage,
 };
 use access_assign::structs::access_field;
 use mac_access::mac_access as access;
 use mac_access::mac_access::{MacAccess, MacAccessOption};
 use mac_resource::mac_resource as resource;
 use mac_resource::mac_resource::MacResource;
-use optional_elements::allocation::OptionalAllocation;
-use optional_elements::power_control::OptionalPower;
-use optional_elements::slot_granting::OptionalGrant;
 use tetra_core::address::{DownlinkAddress, SsiType, UplinkAddress};
 use tetra_fields::enums::reservation_requirement as reservation;
 use tetra_mac::address;
@@ -64,24 +61,24 @@ fn ul_told(u: AccessAssignUlUsage, out: &mut [u64; 40]) -> u64 {
 }
 
 // Where there is none, no word.
-fn ul_found(u: UplinkUsage, out: &mut [u64; 40]) -> u64 {
+fn ul_found(u: Option<AccessAssignUlUsage>, out: &mut [u64; 40]) -> u64 {
     match u {
-        UplinkUsage::Usage(u) => ul_told(u, out),
-        UplinkUsage::Nothing => 0,
+        Some(u) => ul_told(u, out),
+        None => 0,
     }
 }
 
-fn marked(m: UplinkMarker, out: &mut [u64; 40]) -> u64 {
+fn marked(m: Option<u8>, out: &mut [u64; 40]) -> u64 {
     match m {
-        UplinkMarker::Marker(n) => answers::one(out, n as u64),
-        UplinkMarker::Nothing => 0,
+        Some(n) => answers::one(out, n as u64),
+        None => 0,
     }
 }
 
-fn channel(t: TrafficChannel, out: &mut [u64; 40]) -> u64 {
+fn channel(t: Option<u8>, out: &mut [u64; 40]) -> u64 {
     match t {
-        TrafficChannel::Channel(n) => answers::one(out, n as u64),
-        TrafficChannel::Nothing => 0,
+        Some(n) => answers::one(out, n as u64),
+        None => 0,
     }
 }
 
@@ -177,9 +174,9 @@ fn addressed(addr: DownlinkAddress) -> MacResource {
         encryption_mode: 0,
         random_access_flag: false,
         length_ind: 2,
-        power_control_element: OptionalPower::Without,
-        slot_granting_element: OptionalGrant::Without,
-        chan_alloc_element: OptionalAllocation::Without,
+        power_control_element: None,
+        slot_granting_element: None,
+        chan_alloc_element: None,
     }
 }
 

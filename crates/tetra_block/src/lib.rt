@@ -9,7 +9,7 @@ ghost use Rattle.tetra_mac.specs.Reply.{replied, wrote, put_first, moved_reply};
 ghost use Rattle.tetra_block.specs.Block.{no_header, has_end, end_bit, resource_words, refused_words, entry_words, length_known, length_value, add_known, writer_moved, block_step_reply, block_add_reply, block_finish_reply};
 
 use block_rules::to_add::LengthIndication;
-use mac_block::reader::{BlockEntry, PduEnd, RefusedPdu, ResourcePdu, StepAnswer};
+use mac_block::reader::{BlockEntry, RefusedPdu, ResourcePdu, StepAnswer};
 use mac_block::writer::Written;
 use mac_block::{reader, writer};
 use tetra_core::bitbuffer::{Cursor, Moved};
@@ -51,21 +51,21 @@ fn put_resource(out: &mut [u64], p: ResourcePdu)
     tetra_resource::give_mac_resource(&mut out[7..], 0, p.header);
 }
 
-fn has_end(e: PduEnd) -> u64
+fn has_end(e: Option<usize>) -> u64
     ensures { result ≡ has_end e }
 {
     match e {
-        PduEnd::At(_) => 1,
-        PduEnd::Unknown => 0,
+        Some(_) => 1,
+        None => 0,
     }
 }
 
-fn end_bit(e: PduEnd) -> u64
+fn end_bit(e: Option<usize>) -> u64
     ensures { result ≡ end_bit e }
 {
     match e {
-        PduEnd::At(end) => end as u64,
-        PduEnd::Unknown => 0,
+        Some(end) => end as u64,
+        None => 0,
     }
 }
 

@@ -1,20 +1,13 @@
 -- What each call of bitbuffer.rt answers, the cursor after it, and the bytes that it leaves. Document 01, "Bits".
-use Rattle.std.specs.Prelude.{ℕ, zero, suc, ◌+◌, ◌-◌, ◌*◌, ◌^◌, List, [], ◌∷◌, ◌++◌, map, Bool, true, false, ◌&&◌, length, replicate, drop, ℤ, pos, negsuc, ◌+ℤ◌, leb, ltb}
+use Rattle.std.specs.Prelude.{ℕ, zero, suc, ◌+◌, ◌-◌, ◌*◌, ◌^◌, List, [], ◌∷◌, ◌++◌, map, Bool, true, false, ◌&&◌, length, replicate, drop, ℤ, pos, negsuc, ◌+ℤ◌, leb, ltb, Err, None, Ok, Option, Result, Some}
 use Rattle.bits.specs.Bits.{digit, odd, bits_at, get_bits, put_bits, bits_of_nat}
 use Rattle.tetra_core.specs.Refusal.{unless, first}
 use Rattle.tetra_core.specs.Quantity.{octets_of, fill_of}
 use Rattle.tetra_core.specs.declared.bitbuffer.Cursor.{Cursor}
-use Rattle.tetra_core.specs.declared.bitbuffer.BitsAnswer.{BitsAnswer}
-use Rattle.tetra_core.specs.declared.bitbuffer.BitsAnswer.TheVariants.{Value, Refused}
 use Rattle.tetra_core.specs.declared.bitbuffer.BitsRead.{BitsRead}
-use Rattle.tetra_core.specs.declared.bitbuffer.Outcome.{Outcome}
-use Rattle.tetra_core.specs.declared.bitbuffer.Outcome.TheVariants as Outcome'
 use Rattle.tetra_core.specs.declared.bitbuffer.Moved.{Moved}
 use Rattle.tetra_core.specs.declared.bitbuffer.Copied.{Copied}
-use Rattle.tetra_core.specs.declared.bitbuffer.Opened.{Opened}
-use Rattle.tetra_core.specs.declared.bitbuffer.Place.{Place}
-use Rattle.tetra_core.specs.declared.bitbuffer.Place.TheVariants as Place'
-use Rattle.tetra_core.specs.declared.bitbuffer.Opened.TheVariants as Opened'
+use Rattle.tetra_core.specs.declared.refusal.Refusal.{Refusal}
 
 -- "It is good where start ≤ cursor ≤ end, and end is at most 65,536 and at most 8 × the bytes."
 unfoldable pub good_window : ℕ → Cursor → Bool
@@ -34,9 +27,9 @@ moved c n = at c (c.pos + n)
 -- ---- the forms of an answer, where the number of its refusal is j, or 0 if nothing refuses it
 
 -- a number; "A bare field or peek gives 0" for the place of its refusal
-abbrev pub answer : ℕ → ℕ → BitsAnswer
-answer zero v = Value v
-answer (suc j) v = Refused (record { number = suc j; offset = 0 })
+abbrev pub answer : ℕ → ℕ → Result ℕ Refusal
+answer zero v = Ok v
+answer (suc j) v = Err (record { number = suc j; offset = 0 })
 
 -- the cursor after a call, which a refusal leaves as it was
 abbrev pub after : ℕ → Cursor → Cursor → Cursor
@@ -44,9 +37,9 @@ after zero c d = d
 after (suc j) c d = c
 
 -- what a call that writes, copies or moves says: "A write or length refusal is its number alone"
-abbrev pub outcome : ℕ → Outcome
-outcome zero = Outcome'.Done
-outcome (suc j) = Outcome'.Refused (suc j)
+abbrev pub outcome : ℕ → Result (Unit {0}) ℕ
+outcome zero = Ok tt
+outcome (suc j) = Err (suc j)
 
 -- the bytes after a call: t, or where it is refused s as they were
 abbrev pub bytes_after : ℕ → List ℕ → List ℕ → List ℕ
@@ -61,7 +54,7 @@ moves j c d = record { cursor = after j c d; answer = outcome j }
 
 -- a read that is refused by a number
 abbrev pub read_refused : Cursor → ℕ → BitsRead
-read_refused c j = record { cursor = c; answer = Refused (record { number = j; offset = 0 }) }
+read_refused c j = record { cursor = c; answer = Err (record { number = j; offset = 0 }) }
 
 -- ---- reads
 
@@ -82,14 +75,14 @@ abbrev pub signed : ℕ → ℤ
 signed n = pos n
 
 -- the bit of the slice at a signed place
-unfoldable pub place_of : ℤ → Place
-place_of (pos p) = Place'.Bit p
-place_of (negsuc k) = Place'.Before
+unfoldable pub place_of : ℤ → Option ℕ
+place_of (pos p) = Some p
+place_of (negsuc k) = None
 
 -- a peek at a signed offset from the cursor: a bit before bit 0 of the slice is before the window's start
-abbrev pub peek_place : List ℕ → Cursor → Place → ℕ → BitsRead
-peek_place s c (Place'.Bit p) n = peek_at s c p n
-peek_place s c Place'.Before n = reads (first (unless (good_window (length s) c) 13 ∷ 1 ∷ [])) 0 c c
+abbrev pub peek_place : List ℕ → Cursor → Option ℕ → ℕ → BitsRead
+peek_place s c (Some p) n = peek_at s c p n
+peek_place s c None n = reads (first (unless (good_window (length s) c) 13 ∷ 1 ∷ [])) 0 c c
 
 unfoldable pub peek_bits_posoffset : List ℕ → Cursor → ℤ → ℕ → BitsRead
 peek_bits_posoffset s c o n = peek_place s c (place_of (signed c.pos +ℤ o)) n
@@ -188,7 +181,7 @@ from_bitarr s c buf = bytes_after (from_bitarr_refusal (length s) c buf) s (put_
 -- ---- the window itself
 
 -- a length or a place of a window that is good
-unfoldable pub window_count : ℕ → Cursor → ℕ → BitsAnswer
+unfoldable pub window_count : ℕ → Cursor → ℕ → Result ℕ Refusal
 window_count len c v = answer (unless (good_window len c) 13) v
 
 -- a window changed into d, which has to be good too
@@ -196,17 +189,17 @@ unfoldable pub changed : ℕ → Cursor → Cursor → Moved
 changed len c d = moves (unless (good_window len c && good_window len d) 13) c d
 
 -- a seek by a signed offset
-abbrev pub seek_place : ℕ → Cursor → Place → Moved
-seek_place len c (Place'.Bit p) = changed len c (at c p)
-seek_place len c Place'.Before = moves 13 c c
+abbrev pub seek_place : ℕ → Cursor → Option ℕ → Moved
+seek_place len c (Some p) = changed len c (at c p)
+seek_place len c None = moves 13 c c
 
 unfoldable pub seek_rel : ℕ → Cursor → ℤ → Moved
 seek_rel len c o = seek_place len c (place_of (signed c.pos +ℤ o))
 
 -- a window over the first n bits: "bit count over limit or slice"
-abbrev pub window_of : Bool → Cursor → Opened
-window_of true c = Opened'.Window c
-window_of false c = Opened'.Refused (record { number = 13; offset = 0 })
+abbrev pub window_of : Bool → Cursor → Result Cursor Refusal
+window_of true c = Ok c
+window_of false c = Err (record { number = 13; offset = 0 })
 
-unfoldable pub opened : ℕ → ℕ → Opened
+unfoldable pub opened : ℕ → ℕ → Result Cursor Refusal
 opened len n = window_of (good_window len (record { start = 0; pos = 0; end = n })) (record { start = 0; pos = 0; end = n })

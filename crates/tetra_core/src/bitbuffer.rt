@@ -17,32 +17,18 @@ pub struct Cursor {
     pub end: usize,
 }
 
-// A number, or why there is none.
-#[derive(Clone, Copy)]
-pub enum BitsAnswer {
-    Value(u64),
-    Refused(Refusal),
-}
-
 // What a read answers, and the cursor after it.
 #[derive(Clone, Copy)]
 pub struct BitsRead {
     pub cursor: Cursor,
-    pub answer: BitsAnswer,
-}
-
-// Whether a call that writes or moves was done, or the number of its refusal.
-#[derive(Clone, Copy)]
-pub enum Outcome {
-    Done,
-    Refused(u8),
+    pub answer: Result<u64, Refusal>,
 }
 
 // The cursor after a call that writes or moves.
 #[derive(Clone, Copy)]
 pub struct Moved {
     pub cursor: Cursor,
-    pub answer: Outcome,
+    pub answer: Result<(), u8>,
 }
 
 // Both cursors after a copy.
@@ -50,14 +36,7 @@ pub struct Moved {
 pub struct Copied {
     pub cursor: Cursor,
     pub source: Cursor,
-    pub answer: Outcome,
-}
-
-// A window over a slice, or why there is none.
-#[derive(Clone, Copy)]
-pub enum Opened {
-    Window(Cursor),
-    Refused(Refusal),
+    pub answer: Result<(), u8>,
 }
 
 // Whether c is a good window on len bytes.
@@ -150,12 +129,12 @@ pub fn moved_unless(c: Cursor, number: u8, n: usize) -> Moved
     if number != 0 {
         return Moved {
             cursor: c,
-            answer: Outcome::Refused(number),
+            answer: Err(number),
         };
     }
     Moved {
         cursor: moved_to(c, c.pos + n),
-        answer: Outcome::Done,
+        answer: Ok(()),
     }
 }
 
@@ -165,7 +144,7 @@ fn refused(c: Cursor, number: u8) -> BitsRead
 {
     BitsRead {
         cursor: c,
-        answer: BitsAnswer::Refused(Refusal { number, offset: 0 }),
+        answer: Err(Refusal { number, offset: 0 }),
     }
 }
 
@@ -181,7 +160,7 @@ pub fn read_bits(s: &[u8], c: Cursor, num_bits: usize) -> BitsRead
     let value = word::get_bits(s, pos, num_bits);
     BitsRead {
         cursor: moved_to(c, pos + num_bits),
-        answer: BitsAnswer::Value(value),
+        answer: Ok(value),
     }
 }
 
@@ -203,7 +182,7 @@ fn peek_at(s: &[u8], c: Cursor, p: usize, num_bits: usize) -> BitsRead
     let value = word::get_bits(s, p, num_bits);
     BitsRead {
         cursor: c,
-        answer: BitsAnswer::Value(value),
+        answer: Ok(value),
     }
 }
 
@@ -215,15 +194,8 @@ pub fn peek_bits(s: &[u8], c: Cursor, num_bits: usize) -> BitsRead
     peek_at(s, c, pos, num_bits)
 }
 
-// A bit of the slice that is so many bits from a cursor, or none where it would be before bit 0.
-#[derive(Clone, Copy)]
-enum Place {
-    Bit(usize),
-    Before,
-}
-
 // The bit that is offset bits from pos.
-fn place_of(pos: usize, offset: isize) -> Place
+fn place_of(pos: usize, offset: isize) -> Option<usize>
     requires { pos ≤ 65536 }
     ensures { result ≡ place_of (signed pos +ℤ offset) }
 {
@@ -231,11 +203,11 @@ fn place_of(pos: usize, offset: isize) -> Place
         // One more, so that the least isize has a magnitude too.
         let back = (-(offset + 1)) as usize;
         if pos <= back {
-            return Place::Before;
+            return None;
         }
-        return Place::Bit(pos - 1 - back);
+        return Some(pos - 1 - back);
     }
-    Place::Bit(pos + offset as usize)
+    Some(pos + offset as usize)
 }
 
 // Reads num_bits bits so many bits from the cursor, before or behind it, and leaves it.
@@ -247,8 +219,8 @@ pub fn peek_bits_posoffset(s: &[u8], c: Cursor, offset: isize, num_bits: usize) 
     }
     let pos = c.pos;
     match place_of(pos, offset) {
-        Place::Bit(p) => peek_at(s, c, p, num_bits),
-        Place::Before => refused(c, refusal::READ_PAST_END),
+        Some(p) => peek_at(s, c, p, num_bits),
+        None => refused(c, refusal::READ_PAST_END),
     }
 }
 
@@ -307,7 +279,7 @@ pub fn read_bits_into_slice(s: &[u8], c: Cursor, num_bits: usize, buf: &mut [u8]
     bitarr::copy_octets(buf, s, pos, num_bits);
     BitsRead {
         cursor: moved_to(c, pos + num_bits),
-        answer: BitsAnswer::Value(num_bits as u64),
+        answer: Ok(num_bits as u64),
     }
 }
 
@@ -324,7 +296,7 @@ pub fn to_bitarr(s: &[u8], c: Cursor, buf: &mut [u8]) -> BitsRead
     bitarr::spread_all(buf, s, pos);
     BitsRead {
         cursor: moved_to(c, pos + n),
-        answer: BitsAnswer::Value(n as u64),
+        answer: Ok(n as u64),
     }
 }
 
@@ -354,7 +326,7 @@ pub fn into_bitvec(s: &[u8], c: Cursor, buf: &mut [u8]) -> BitsRead
     bitarr::spread_all(&mut buf[..n], s, start);
     BitsRead {
         cursor: c,
-        answer: BitsAnswer::Value(n as u64),
+        answer: Ok(n as u64),
     }
 }
 
@@ -393,14 +365,14 @@ fn write_run(s: &mut [u8], c: Cursor, num_bits: usize, ones: bool) -> Moved
     if number != 0 {
         return Moved {
             cursor: c,
-            answer: Outcome::Refused(number),
+            answer: Err(number),
         };
     }
     let pos = c.pos;
     span::put_span(s, pos, num_bits, ones);
     Moved {
         cursor: moved_to(c, pos + num_bits),
-        answer: Outcome::Done,
+        answer: Ok(()),
     }
 }
 
@@ -446,7 +418,7 @@ pub fn copy_bits(t: &mut [u8], d: Cursor, s: &[u8], c: Cursor, num_bits: usize) 
         return Copied {
             cursor: d,
             source: c,
-            answer: Outcome::Refused(number),
+            answer: Err(number),
         };
     }
     let to = d.pos;
@@ -455,7 +427,7 @@ pub fn copy_bits(t: &mut [u8], d: Cursor, s: &[u8], c: Cursor, num_bits: usize) 
     Copied {
         cursor: moved_to(d, to + num_bits),
         source: moved_to(c, from + num_bits),
-        answer: Outcome::Done,
+        answer: Ok(()),
     }
 }
 
@@ -483,56 +455,56 @@ pub fn copy_bits_from_bitarr(s: &mut [u8], c: Cursor, buf: &[u8]) -> Moved
     if number != 0 {
         return Moved {
             cursor: c,
-            answer: Outcome::Refused(number),
+            answer: Err(number),
         };
     }
     let pos = c.pos;
     bitarr::gather_all(s, pos, buf);
     Moved {
         cursor: moved_to(c, pos + buf.len()),
-        answer: Outcome::Done,
+        answer: Ok(()),
     }
 }
 
 // The bits from a to b of a good window.
-fn window_count(len: usize, c: Cursor, a: usize, b: usize) -> BitsAnswer
+fn window_count(len: usize, c: Cursor, a: usize, b: usize) -> Result<u64, Refusal>
     ensures { result ≡ window_count len c (b - a) }
 {
     if good_window(len, c) {
         if a < b {
-            return BitsAnswer::Value((b - a) as u64);
+            return Ok((b - a) as u64);
         }
-        return BitsAnswer::Value(0);
+        return Ok(0);
     }
-    BitsAnswer::Refused(Refusal {
+    Err(Refusal {
         number: refusal::BAD_WINDOW,
         offset: 0,
     })
 }
 
 // The bits of the window.
-pub fn get_len(s: &[u8], c: Cursor) -> BitsAnswer
+pub fn get_len(s: &[u8], c: Cursor) -> Result<u64, Refusal>
     ensures { result ≡ window_count (length s.now) c (c.end - c.start) }
 {
     window_count(s.len(), c, c.start, c.end)
 }
 
 // The bits from the cursor to the window's end.
-pub fn get_len_remaining(s: &[u8], c: Cursor) -> BitsAnswer
+pub fn get_len_remaining(s: &[u8], c: Cursor) -> Result<u64, Refusal>
     ensures { result ≡ window_count (length s.now) c (c.end - c.pos) }
 {
     window_count(s.len(), c, c.pos, c.end)
 }
 
 // The bits from the window's start to the cursor.
-pub fn get_len_written(s: &[u8], c: Cursor) -> BitsAnswer
+pub fn get_len_written(s: &[u8], c: Cursor) -> Result<u64, Refusal>
     ensures { result ≡ window_count (length s.now) c (c.pos - c.start) }
 {
     window_count(s.len(), c, c.start, c.pos)
 }
 
 // The cursor's bit, counted from the window's start.
-pub fn get_pos(s: &[u8], c: Cursor) -> BitsAnswer
+pub fn get_pos(s: &[u8], c: Cursor) -> Result<u64, Refusal>
     ensures { result ≡ window_count (length s.now) c (c.pos - c.start) }
 {
     get_len_written(s, c)
@@ -544,7 +516,7 @@ fn unchanged(c: Cursor) -> Moved
 {
     Moved {
         cursor: c,
-        answer: Outcome::Refused(refusal::BAD_WINDOW),
+        answer: Err(refusal::BAD_WINDOW),
     }
 }
 
@@ -560,7 +532,7 @@ fn change(len: usize, c: Cursor, d: Cursor) -> Moved
     }
     Moved {
         cursor: d,
-        answer: Outcome::Done,
+        answer: Ok(()),
     }
 }
 
@@ -594,8 +566,8 @@ pub fn seek_rel(s: &[u8], c: Cursor, offset: isize) -> Moved
         return unchanged(c);
     }
     match place_of(pos, offset) {
-        Place::Bit(p) => set_raw_pos(s, c, p),
-        Place::Before => unchanged(c),
+        Some(p) => set_raw_pos(s, c, p),
+        None => unchanged(c),
     }
 }
 
@@ -666,7 +638,7 @@ pub fn set_raw_pos(s: &[u8], c: Cursor, pos: usize) -> Moved
 }
 
 // A window over the first len_bits bits of the slice, with its cursor at the first.
-pub fn new(s: &[u8], len_bits: usize) -> Opened
+pub fn new(s: &[u8], len_bits: usize) -> Result<Cursor, Refusal>
     ensures { result ≡ opened (length s.now) len_bits }
 {
     let c = Cursor {
@@ -675,23 +647,23 @@ pub fn new(s: &[u8], len_bits: usize) -> Opened
         end: len_bits,
     };
     if good_window(s.len(), c) {
-        return Opened::Window(c);
+        return Ok(c);
     }
-    Opened::Refused(Refusal {
+    Err(Refusal {
         number: refusal::BAD_WINDOW,
         offset: 0,
     })
 }
 
 // A window over the whole slice.
-pub fn from_bytes(s: &[u8]) -> Opened
+pub fn from_bytes(s: &[u8]) -> Result<Cursor, Refusal>
     ensures { result ≡ opened (length s.now) (8 * length s.now) }
 {
     let len = s.len();
     if len <= 8192 {
         return new(s, 8 * len);
     }
-    Opened::Refused(Refusal {
+    Err(Refusal {
         number: refusal::BAD_WINDOW,
         offset: 0,
     })

@@ -12,11 +12,11 @@ pub struct Octets(pub u8);
 #[derive(Clone, Copy)]
 pub struct Bits(pub u16);
 
-// The octets that a number of bits takes up, and the bits short of them; or the number of the refusal.
+// The octets that a number of bits takes up, and the bits short of them.
 #[derive(Clone, Copy)]
-pub enum OctetCount {
-    Counted(Octets, Bits),
-    Refused(u8),
+pub struct OctetCount {
+    pub octets: Octets,
+    pub fill: Bits,
 }
 
 // The most octets that a length can say: 62 and 63 are marks.
@@ -30,12 +30,15 @@ pub fn octets_to_bits(n: Octets) -> Bits
 }
 
 // The octets that a number of bits takes up, rounded up, and the fill: the bits short of them.
-pub fn count_octets(bits: usize) -> OctetCount
+pub fn count_octets(bits: usize) -> Result<OctetCount, u8>
     ensures { result ≡ octet_count bits }
 {
     if 8 * MOST_OCTETS < bits {
-        return OctetCount::Refused(refusal::LENGTH);
+        return Err(refusal::LENGTH);
     }
     let octets = (bits + 7) / 8;
-    OctetCount::Counted(Octets(octets as u8), Bits((8 * octets - bits) as u16))
+    Ok(OctetCount {
+        octets: Octets(octets as u8),
+        fill: Bits((8 * octets - bits) as u16),
+    })
 }

@@ -1,5 +1,5 @@
 -- The slot grant (document 01): "8 bits: capacity 4, delay 4. Delay 0 is next opportunity, 1 to 13 that many, 14 frame 18, 15 wait."
-use Rattle.std.specs.Prelude.{ℕ, ◌+◌, ◌%◌, List, [], ◌∷◌, Bool, cond, ◌&&◌, drop, get_or, eqb, leb}
+use Rattle.std.specs.Prelude.{ℕ, ◌+◌, ◌%◌, List, [], ◌∷◌, Bool, cond, ◌&&◌, drop, get_or, eqb, leb, Err, None, Ok, Option, Some}
 use Rattle.tetra_core.specs.Refusal.{unless}
 use Rattle.tetra_core.specs.declared.bitbuffer.Cursor.{Cursor}
 use Rattle.tetra_core.specs.declared.bitbuffer.Moved.{Moved}
@@ -14,14 +14,9 @@ use Rattle.tetra_fields.specs.declared.enums.basic_slotgrant_cap_alloc.BasicSlot
 use Rattle.tetra_fields.specs.declared.enums.basic_slotgrant_cap_alloc.BasicSlotgrantCapAlloc.TheVariants.{FirstSubslotGranted, Grant1Slot, Grant2Slots, Grant3Slots, Grant4Slots, Grant5Slots, Grant6Slots, Grant8Slots, Grant10Slots, Grant13Slots, Grant17Slots, Grant24Slots, Grant34Slots, Grant51Slots, Grant68Slots, SecondSubslotGranted}
 use Rattle.tetra_fields.specs.declared.enums.basic_slotgrant_cap_alloc.GrantedSlots.{GrantedSlots}
 use Rattle.tetra_fields.specs.declared.enums.basic_slotgrant_cap_alloc.GrantedSlots.TheVariants as Granted'
-use Rattle.tetra_fields.specs.declared.enums.basic_slotgrant_cap_alloc.CapAllocCase.{CapAllocCase}
-use Rattle.tetra_fields.specs.declared.enums.basic_slotgrant_cap_alloc.CapAllocCase.TheVariants as CapAllocCase'
 use Rattle.tetra_fields.specs.declared.enums.basic_slotgrant_granting_delay.BasicSlotgrantGrantingDelay.{BasicSlotgrantGrantingDelay}
 use Rattle.tetra_fields.specs.declared.enums.basic_slotgrant_granting_delay.BasicSlotgrantGrantingDelay.TheVariants.{CapAllocAtNextOpportunity, DelayNOpportunities, AllocStartsAtOpportunityInFr18, WaitForAnotherSlotgrantMessage}
-use Rattle.tetra_fields.specs.declared.enums.basic_slotgrant_granting_delay.GrantingDelayCase.{GrantingDelayCase}
-use Rattle.tetra_fields.specs.declared.enums.basic_slotgrant_granting_delay.GrantingDelayCase.TheVariants as GrantingDelayCase'
 use Rattle.tetra_fields.specs.declared.fields.basic_slotgrant.BasicSlotgrant.{BasicSlotgrant}
-use Rattle.tetra_fields.specs.declared.fields.basic_slotgrant.SlotgrantAnswer.{SlotgrantAnswer}
 use Rattle.tetra_fields.specs.declared.fields.basic_slotgrant.SlotgrantRead.{SlotgrantRead}
 use Rattle.tetra_fields.specs.declared.fields.basic_slotgrant.SlotgrantPart.{SlotgrantPart}
 
@@ -70,8 +65,8 @@ unfoldable pub cap_alloc_of : ℕ → BasicSlotgrantCapAlloc
 cap_alloc_of v = get_or cap_allocs (v % 16) SecondSubslotGranted
 
 -- of a number, where it is one of 4 bits
-abbrev pub cap_alloc_case : ℕ → CapAllocCase
-cap_alloc_case v = cond (leb v 15) (CapAllocCase'.Case (cap_alloc_of v)) CapAllocCase'.Nothing
+abbrev pub cap_alloc_case : ℕ → Option BasicSlotgrantCapAlloc
+cap_alloc_case v = cond (leb v 15) (Some (cap_alloc_of v)) None
 
 abbrev pub delay_number : BasicSlotgrantGrantingDelay → ℕ
 delay_number CapAllocAtNextOpportunity = 0
@@ -89,8 +84,8 @@ unfoldable pub delay_of : ℕ → BasicSlotgrantGrantingDelay
 delay_of v = delay_of_bits (v % 16)
 
 -- of a number, where it is one of 4 bits
-abbrev pub delay_case : ℕ → GrantingDelayCase
-delay_case v = cond (leb v 15) (GrantingDelayCase'.Case (delay_of v)) GrantingDelayCase'.Nothing
+abbrev pub delay_case : ℕ → Option BasicSlotgrantGrantingDelay
+delay_case v = cond (leb v 15) (Some (delay_of v)) None
 
 -- ---- how many slots: the numbers 1 to 14 mean as many as in a reservation requirement, 0 and 15 are the subslots
 
@@ -103,10 +98,10 @@ abbrev pub granted_slots : BasicSlotgrantCapAlloc → GrantedSlots
 granted_slots a = grant_of (slotcount (reservation_of (cap_alloc_number a)))
 
 -- the least case that grants n slots, 0 for the first subslot and 99 for the second
-abbrev pub cap_alloc_for : ℕ → CapAllocCase
+abbrev pub cap_alloc_for : ℕ → Option BasicSlotgrantCapAlloc
 cap_alloc_for n =
-    cond (eqb n 99) (CapAllocCase'.Case SecondSubslotGranted)
-    (cond (leb n 68) (CapAllocCase'.Case (cap_alloc_of (reservation_number (reservation_for n)))) CapAllocCase'.Nothing)
+    cond (eqb n 99) (Some SecondSubslotGranted)
+    (cond (leb n 68) (Some (cap_alloc_of (reservation_number (reservation_for n)))) None)
 
 -- ---- what is read
 
@@ -125,7 +120,7 @@ abbrev pub slotgrant_out : ℕ → List Bool → SlotgrantPart → Out BasicSlot
 slotgrant_out o h p = part_out p.refusal (got p.grant (drop (o + slotgrant_size) h) (o + slotgrant_size))
 
 unfoldable pub slotgrant_at : List ℕ → Cursor → SlotgrantRead
-slotgrant_at = at_cursor read_slotgrant (λ c a. record { cursor = c; answer = a }) SlotgrantAnswer.Read SlotgrantAnswer.Refused
+slotgrant_at = at_cursor read_slotgrant (λ c a. record { cursor = c; answer = a }) Ok Err
 
 -- ---- what is written
 

@@ -1,16 +1,14 @@
 -- The calls of the bit buffer: a read leaves the cursor and the value.
-use Rattle.std.specs.Prelude.{ℕ, List, [], ◌∷◌}
+use Rattle.std.specs.Prelude.{ℕ, List, [], ◌∷◌, Err, Ok, Result}
 use Rattle.std.proofs.Math.Option.{some}
 use Rattle.tetra_core.specs.BitBuffer.{write_bits, written}
 use Rattle.tetra_core.specs.declared.bitbuffer.Cursor.{Cursor}
-use Rattle.tetra_core.specs.declared.bitbuffer.BitsAnswer.{BitsAnswer}
-use Rattle.tetra_core.specs.declared.bitbuffer.BitsAnswer.TheVariants.{Value, Refused}
 use Rattle.tetra_core.specs.declared.bitbuffer.BitsRead.{BitsRead}
 use Rattle.tetra_mac.specs.Reply.{Reply, WriteReply, given_reply, denied_reply, read_reply, write_reply}
 
-abbrev pub bits_reply : List ℕ → ℕ → BitsAnswer → Reply
-bits_reply out at (Value v) = given_reply out at (v ∷ [])
-bits_reply out at (Refused r) = denied_reply out at r
+abbrev pub bits_reply : List ℕ → ℕ → Result ℕ Refusal → Reply
+bits_reply out at (Ok v) = given_reply out at (v ∷ [])
+bits_reply out at (Err r) = denied_reply out at r
 
 -- a read or a peek of the bit buffer
 abbrev pub bits_read_reply : BitsRead → List ℕ → Reply
@@ -20,6 +18,6 @@ abbrev pub bits_write_reply : List ℕ → Cursor → ℕ → ℕ → List ℕ �
 bits_write_reply s c value n out = write_reply (λ v. write_bits s c v n) (λ v. written s c v n) s (some value) out
 
 -- the bit of a refusal, or 0
-abbrev pub bits_bit : BitsAnswer → ℕ
-bits_bit (Value v) = 0
-bits_bit (Refused r) = r.offset
+abbrev pub bits_bit : Result ℕ Refusal → ℕ
+bits_bit (Ok v) = 0
+bits_bit (Err r) = r.offset

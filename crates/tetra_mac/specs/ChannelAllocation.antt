@@ -1,25 +1,19 @@
 -- The channel allocation as a record of 9 words: allocation type 0 to 3; timeslots as 4 bits (slot 1 is 8); direction 0 to 3; CLCH permission;
 -- cell change; carrier; monitoring pattern; frame-18 pattern present; frame-18 pattern.
-use Rattle.std.specs.Prelude.{ℕ, min, List, [], ◌∷◌, Bool, cond, ◌&&◌, length, eqb, leb}
+use Rattle.std.specs.Prelude.{ℕ, min, List, [], ◌∷◌, Bool, cond, ◌&&◌, length, eqb, leb, Err, None, Ok, Option, Result, Some}
 use Rattle.std.proofs.Math.Option.{Option}
 use Rattle.bits.specs.Bits.{digit}
 use Rattle.tetra_core.specs.declared.bitbuffer.Cursor.{Cursor}
 use Rattle.codec.specs.Cases.{flag}
 use Rattle.channel_allocation.specs.ChannelAllocation.{alloc_type_number, alloc_type_of, ul_dl_number, ul_dl_of, timeslots_number, timeslots_of, frame18_number, channel_allocation_at, channel_allocation_write, channel_allocation_written, compute_len}
-use Rattle.channel_allocation.specs.declared.channel_allocation.Frame18Pattern.{Frame18Pattern}
-use Rattle.channel_allocation.specs.declared.channel_allocation.Frame18Pattern.TheVariants.{Without, Pattern}
 use Rattle.channel_allocation.specs.declared.channel_allocation.ChanAllocElement.{ChanAllocElement}
-use Rattle.channel_allocation.specs.declared.channel_allocation.ChannelAllocationAnswer.{ChannelAllocationAnswer}
-use Rattle.channel_allocation.specs.declared.channel_allocation.ChannelAllocationAnswer.TheVariants.{Read, Refused}
-use Rattle.channel_allocation.specs.declared.channel_allocation.ChanAllocLen.{ChanAllocLen}
-use Rattle.channel_allocation.specs.declared.channel_allocation.ChanAllocLen.TheVariants as Len'
 use Rattle.tetra_mac.specs.Reply.{Reply, WriteReply, given_reply, denied_reply, counted_reply, replied, read_reply, write_reply, record_reply, value_if, word}
 
 -- ---- the words of a channel allocation
 
-abbrev pub frame18_present : Frame18Pattern → ℕ
-frame18_present Without = 0
-frame18_present (Pattern v) = 1
+abbrev pub frame18_present : Option ℕ → ℕ
+frame18_present None = 0
+frame18_present (Some v) = 1
 
 abbrev pub channel_allocation_words : ChanAllocElement → List ℕ
 channel_allocation_words e =
@@ -39,8 +33,8 @@ channel_allocation_words e =
 unfoldable pub channel_allocation_known : List ℕ → Bool
 channel_allocation_known ws = leb 9 (length ws) && (leb (word ws 0) 3 && (leb (word ws 1) 15 && leb (word ws 2) 3))
 
-unfoldable pub frame18_value : ℕ → ℕ → Frame18Pattern
-frame18_value present v = cond (eqb present 0) Without (Pattern v)
+unfoldable pub frame18_value : ℕ → ℕ → Option ℕ
+frame18_value present v = cond (eqb present 0) None (Some v)
 
 unfoldable pub channel_allocation_value : List ℕ → ChanAllocElement
 channel_allocation_value ws =
@@ -60,9 +54,9 @@ channel_allocation_of_words ws = value_if (channel_allocation_known ws) (channel
 
 -- ---- the calls
 
-abbrev pub channel_allocation_reply : List ℕ → ℕ → ChannelAllocationAnswer → Reply
-channel_allocation_reply out at (Read e) = given_reply out at (channel_allocation_words e)
-channel_allocation_reply out at (Refused r) = denied_reply out at r
+abbrev pub channel_allocation_reply : List ℕ → ℕ → Result ChanAllocElement Refusal → Reply
+channel_allocation_reply out at (Ok e) = given_reply out at (channel_allocation_words e)
+channel_allocation_reply out at (Err r) = denied_reply out at r
 
 abbrev pub channel_allocation_read_reply : List ℕ → Cursor → List ℕ → Reply
 channel_allocation_read_reply s c out =
@@ -72,9 +66,9 @@ abbrev pub channel_allocation_write_reply : List ℕ → Cursor → List ℕ →
 channel_allocation_write_reply s c ws out =
     write_reply (channel_allocation_write s c) (channel_allocation_written s c) s (channel_allocation_of_words ws) out
 
-abbrev pub chan_alloc_len_reply : List ℕ → ChanAllocLen → Reply
-chan_alloc_len_reply out (Len'.Len n) = counted_reply out (n.0 ∷ [])
-chan_alloc_len_reply out (Len'.Refused j) = replied j out
+abbrev pub chan_alloc_len_reply : List ℕ → Result Bits ℕ → Reply
+chan_alloc_len_reply out (Ok n) = counted_reply out (n.0 ∷ [])
+chan_alloc_len_reply out (Err j) = replied j out
 
 abbrev pub channel_allocation_len_reply : List ℕ → List ℕ → Reply
 channel_allocation_len_reply ws out = record_reply (λ e. chan_alloc_len_reply out (compute_len e)) 1 (channel_allocation_of_words ws) out

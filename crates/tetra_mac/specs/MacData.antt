@@ -1,5 +1,5 @@
 -- The MAC-DATA as a record of 8 words: that of a MAC-ACCESS with the same address and option, which is 1 or 2.
-use Rattle.std.specs.Prelude.{ℕ, List, Bool, ◌&&◌}
+use Rattle.std.specs.Prelude.{ℕ, List, Bool, ◌&&◌, Err, Ok, Result}
 use Rattle.std.proofs.Math.Option.{Option}
 use Rattle.tetra_core.specs.declared.bitbuffer.Cursor.{Cursor}
 use Rattle.codec.specs.Cases.{flag}
@@ -10,8 +10,6 @@ use Rattle.mac_data.specs.MacData.{mac_data_at, mac_data_write, mac_data_written
 use Rattle.mac_data.specs.declared.mac_data.MacData.{MacData}
 use Rattle.mac_data.specs.declared.mac_data.MacDataOption.{MacDataOption}
 use Rattle.mac_data.specs.declared.mac_data.MacDataOption.TheVariants as Data'
-use Rattle.mac_data.specs.declared.mac_data.MacDataAnswer.{MacDataAnswer}
-use Rattle.mac_data.specs.declared.mac_data.MacDataAnswer.TheVariants.{Read, Refused}
 use Rattle.tetra_mac.specs.Reply.{Reply, WriteReply, given_reply, denied_reply, read_reply, write_reply, value_if, word}
 use Rattle.tetra_mac.specs.MacAccess.{mac_access_words, mac_access_known, mac_access_value}
 
@@ -44,9 +42,9 @@ mac_data_of_words ws = value_if (mac_data_known ws) (as_data (mac_access_value w
 
 -- ---- the calls
 
-abbrev pub mac_data_reply : List ℕ → ℕ → MacDataAnswer → Reply
-mac_data_reply out at (Read h) = given_reply out at (mac_data_words h)
-mac_data_reply out at (Refused r) = denied_reply out at r
+abbrev pub mac_data_reply : List ℕ → ℕ → Result MacData Refusal → Reply
+mac_data_reply out at (Ok h) = given_reply out at (mac_data_words h)
+mac_data_reply out at (Err r) = denied_reply out at r
 
 abbrev pub mac_data_read_reply : List ℕ → Cursor → List ℕ → Reply
 mac_data_read_reply s c out = read_reply mac_data_reply 9 (mac_data_at s c).cursor.pos (mac_data_at s c).answer out

@@ -1,12 +1,10 @@
 -- What a call of the interface returns, and the words that it leaves in out. A flag is 0 where it is false and any other number where it is
 -- true, and is read back as 0 or 1.
-use Rattle.std.specs.Prelude.{ℕ, ◌+◌, ◌*◌, List, [], ◌∷◌, Bool, cond, length, get_or, leb}
+use Rattle.std.specs.Prelude.{ℕ, ◌+◌, ◌*◌, List, [], ◌∷◌, Bool, cond, length, get_or, leb, Err, Ok, Result}
 use Rattle.std.proofs.Math.Option.{Option, none, some}
 use Rattle.std.proofs.lemmas.List.Edits.{sets}
 use Rattle.tetra_core.specs.declared.bitbuffer.Cursor.{Cursor}
 use Rattle.tetra_core.specs.declared.bitbuffer.Moved.{Moved}
-use Rattle.tetra_core.specs.declared.bitbuffer.Outcome.{Outcome}
-use Rattle.tetra_core.specs.declared.bitbuffer.Outcome.TheVariants.{Done, Refused}
 use Rattle.tetra_core.specs.declared.refusal.Refusal.{Refusal}
 
 -- a status, and out as the call leaves it
@@ -46,9 +44,9 @@ status_of r = r.number + 256 * r.offset
 abbrev pub denied_reply : List ℕ → ℕ → Refusal → Reply
 denied_reply out at r = replied (status_of r) (put_first out (at ∷ []))
 
-abbrev pub outcome_status : Outcome → ℕ
-outcome_status Done = 0
-outcome_status (Refused j) = j
+abbrev pub outcome_status : Result (Unit {0}) ℕ → ℕ
+outcome_status (Ok tt) = 0
+outcome_status (Err j) = j
 
 abbrev pub moved_reply : List ℕ → Moved → Reply
 moved_reply out m = replied (outcome_status m.answer) (put_first out (m.cursor.pos ∷ []))

@@ -5,7 +5,7 @@ ghost use Rattle.tetra_mac.specs.Reply.{replied, wrote, window};
 ghost use Rattle.tetra_mac.specs.MacAccess.{option_kind, option_first, option_reservation, option_known, option_value, mac_access_words, mac_access_known, mac_access_value, mac_access_read_reply, mac_access_write_reply};
 
 use crate::{address, record};
-use mac_access::mac_access::{MacAccess, MacAccessAnswer, MacAccessOption};
+use mac_access::mac_access::{MacAccess, MacAccessOption};
 use tetra_core::bitbuffer::Cursor;
 use tetra_fields::enums::reservation_requirement;
 use tetra_fields::fields::uplink_address;
@@ -141,11 +141,11 @@ pub fn tetra_mac_access_read(s: &[u8], start: usize, pos: usize, end: usize, out
     let at = done.cursor.pos;
     let answer = done.answer;
     match answer {
-        MacAccessAnswer::Read(h) => {
+        Ok(h) => {
             let words = mac_access_words(h);
             record::give(out, at, &words)
         }
-        MacAccessAnswer::Refused(r) => record::deny(out, at, r),
+        Err(r) => record::deny(out, at, r),
     }
 }
 

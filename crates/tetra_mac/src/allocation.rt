@@ -7,7 +7,7 @@ ghost use Rattle.tetra_mac.specs.ChannelAllocation.{frame18_present, frame18_val
 use crate::record;
 use channel_allocation::channel_allocation as allocation;
 use channel_allocation::channel_allocation::{
-    ChanAllocElement, ChanAllocLen, ChannelAllocationAnswer, Frame18Pattern,
+    ChanAllocElement, Result<Bits, u8>, Result<ChanAllocElement, Refusal>, Option<u8>,
 };
 use channel_allocation::enums::{alloc_type, ul_dl_assignment};
 use tetra_core::bitbuffer::Cursor;
@@ -35,22 +35,22 @@ const WORDS: usize = 9;
 
 const READ_WORDS: usize = WORDS + 1;
 
-fn frame18_present(p: Frame18Pattern) -> u64
+fn frame18_present(p: Option<u8>) -> u64
     ensures { result ≡ frame18_present p }
 {
     match p {
-        Frame18Pattern::Without => 0,
-        Frame18Pattern::Pattern(_) => 1,
+        None => 0,
+        Some(_) => 1,
     }
 }
 
-fn frame18_value(present: u64, v: u8) -> Frame18Pattern
+fn frame18_value(present: u64, v: u8) -> Option<u8>
     ensures { result ≡ frame18_value present v }
 {
     if present == 0 {
-        return Frame18Pattern::Without;
+        return None;
     }
-    Frame18Pattern::Pattern(v)
+    Some(v)
 }
 
 // The words of a channel allocation.
@@ -129,11 +129,11 @@ pub fn tetra_channel_allocation_read(
     let at = done.cursor.pos;
     let answer = done.answer;
     match answer {
-        ChannelAllocationAnswer::Read(e) => {
+        Ok(e) => {
             let words = channel_allocation_words(e);
             record::give(out, at, &words)
         }
-        ChannelAllocationAnswer::Refused(r) => record::deny(out, at, r),
+        Err(r) => record::deny(out, at, r),
     }
 }
 
@@ -170,10 +170,10 @@ pub fn tetra_channel_allocation_len(words: &[u64], out: &mut [u64]) -> u64
     }
     let e = channel_allocation_value(words);
     match allocation::compute_len(e) {
-        ChanAllocLen::Len(n) => {
+        Ok(n) => {
             out[0] = n.0 as u64;
             0
         }
-        ChanAllocLen::Refused(number) => number as u64,
+        Err(number) => number as u64,
     }
 }

@@ -5,7 +5,7 @@ ghost use Rattle.tetra_mac.specs.Reply.{replied, wrote, window, word};
 ghost use Rattle.tetra_mac.specs.AccessAssign.{field_words, dl_kind, dl_traffic, dl_words, ul_kind, ul_traffic, ul_words, field_known, field_value, dl_value, ul_value, one_known, two_known, access_assign_words, access_assign_known, access_assign_value, access_assign_read_reply, access_assign_write_reply};
 
 use crate::record;
-use access_assign::access_assign::{AccessAssign, AccessAssignAnswer};
+use access_assign::access_assign::AccessAssign;
 use access_assign::enums::access_assign_dl_usage::AccessAssignDlUsage;
 use access_assign::enums::access_assign_ul_usage::AccessAssignUlUsage;
 use access_assign::enums::access_code;
@@ -266,11 +266,11 @@ pub fn tetra_access_assign_read(
     let at = done.cursor.pos;
     let answer = done.answer;
     match answer {
-        AccessAssignAnswer::Read(h) => {
+        Ok(h) => {
             let words = access_assign_words(h);
             record::give(out, at, &words)
         }
-        AccessAssignAnswer::Refused(r) => record::deny(out, at, r),
+        Err(r) => record::deny(out, at, r),
     }
 }
 

@@ -6,7 +6,7 @@ ghost use Rattle.tetra_mac.specs.Bits.{bits_bit, bits_reply, bits_read_reply, bi
 
 use crate::record;
 use tetra_core::bitbuffer;
-use tetra_core::bitbuffer::{BitsAnswer, BitsRead, Cursor};
+use tetra_core::bitbuffer::{BitsRead, Cursor};
 
 // The reply to a read of bits.
 fn bits_reply(out: &mut [u64], done: BitsRead) -> u64
@@ -16,11 +16,11 @@ fn bits_reply(out: &mut [u64], done: BitsRead) -> u64
     let at = done.cursor.pos;
     let answer = done.answer;
     match answer {
-        BitsAnswer::Value(v) => {
+        Ok(v) => {
             let words = [v];
             record::give(out, at, &words)
         }
-        BitsAnswer::Refused(r) => record::deny(out, at, r),
+        Err(r) => record::deny(out, at, r),
     }
 }
 

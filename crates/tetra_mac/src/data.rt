@@ -5,7 +5,7 @@ ghost use Rattle.tetra_mac.specs.MacData.{access_option, data_option, as_access,
 
 use crate::{access, record};
 use mac_access::mac_access::{MacAccess, MacAccessOption};
-use mac_data::mac_data::{MacData, MacDataAnswer, MacDataOption};
+use mac_data::mac_data::{MacData, MacDataOption};
 use tetra_core::bitbuffer::Cursor;
 
 fn access_option(o: MacDataOption) -> MacAccessOption
@@ -74,11 +74,11 @@ pub fn tetra_mac_data_read(s: &[u8], start: usize, pos: usize, end: usize, out: 
     let at = done.cursor.pos;
     let answer = done.answer;
     match answer {
-        MacDataAnswer::Read(h) => {
+        Ok(h) => {
             let words = access::mac_access_words(as_access(h));
             record::give(out, at, &words)
         }
-        MacDataAnswer::Refused(r) => record::deny(out, at, r),
+        Err(r) => record::deny(out, at, r),
     }
 }
 

@@ -3,7 +3,7 @@ ghost use Rattle.std.specs.Prelude.{◌≡◌, ◌+◌, ◌≤◌, ◌<◌, min,
 ghost use Rattle.std.proofs.lemmas.List.Edits.{sets};
 ghost use Rattle.tetra_mac.specs.Reply.{replied, status_of, given_reply, denied_reply, moved_reply};
 
-use tetra_core::bitbuffer::{Moved, Outcome};
+use tetra_core::bitbuffer::Moved;
 use tetra_core::refusal::Refusal;
 
 // The status of a call whose record or out is too short, or whose record has a code that no case has.
@@ -56,8 +56,8 @@ pub fn moved(out: &mut [u64], m: Moved) -> u64
     out[0] = m.cursor.pos as u64;
     let answer = m.answer;
     match answer {
-        Outcome::Done => 0,
-        Outcome::Refused(number) => number as u64,
+        Ok(()) => 0,
+        Err(number) => number as u64,
     }
 }
 

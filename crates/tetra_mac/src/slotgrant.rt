@@ -8,7 +8,7 @@ use tetra_core::bitbuffer::Cursor;
 use tetra_fields::enums::basic_slotgrant_cap_alloc as cap_alloc;
 use tetra_fields::enums::basic_slotgrant_granting_delay::BasicSlotgrantGrantingDelay;
 use tetra_fields::fields::basic_slotgrant;
-use tetra_fields::fields::basic_slotgrant::{BasicSlotgrant, SlotgrantAnswer};
+use tetra_fields::fields::basic_slotgrant::BasicSlotgrant;
 
 // The places of the record, and its words; a read has the cursor before them.
 const CAPACITY: usize = 0;
@@ -105,11 +105,11 @@ pub fn tetra_slotgrant_read(s: &[u8], start: usize, pos: usize, end: usize, out:
     let at = done.cursor.pos;
     let answer = done.answer;
     match answer {
-        SlotgrantAnswer::Read(g) => {
+        Ok(g) => {
             let words = slotgrant_words(g);
             record::give(out, at, &words)
         }
-        SlotgrantAnswer::Refused(r) => record::deny(out, at, r),
+        Err(r) => record::deny(out, at, r),
     }
 }
 

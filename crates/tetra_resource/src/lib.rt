@@ -16,13 +16,10 @@ use codec::encoded;
 use codec::encoded::{Encoded, EncodedHeader};
 use codec::piece::Piece;
 use mac_resource::mac_resource as resource;
-use mac_resource::mac_resource::{HeaderLen, LenAndFill, MacResource, MacResourceAnswer};
-use optional_elements::allocation::OptionalAllocation;
+use mac_resource::mac_resource::{LenAndFill, MacResource};
 use optional_elements::elements;
 use optional_elements::elements::Elements;
 use optional_elements::grant_and_allocation::GrantAndAllocation;
-use optional_elements::power_control::OptionalPower;
-use optional_elements::slot_granting::OptionalGrant;
 use tetra_core::address::DownlinkAddress;
 use tetra_core::bitbuffer::Cursor;
 use tetra_core::refusal;
@@ -106,12 +103,12 @@ fn address_words(a: DownlinkAddress) -> [u64; 4]
     }
 }
 
-fn power_words(p: OptionalPower) -> [u64; 2]
+fn power_words(p: Option<u8>) -> [u64; 2]
     ensures { result ≡ power_words p }
 {
     match p {
-        OptionalPower::Without => [0, 0],
-        OptionalPower::Level(v) => [1, v as u64],
+        None => [0, 0],
+        Some(v) => [1, v as u64],
     }
 }
 
@@ -131,16 +128,16 @@ fn put_first(out: &mut [u64], at: usize, h: MacResource)
 }
 
 // Each optional element has its words behind its flag, at a place of its own in out.
-fn put_granting(out: &mut [u64], g: OptionalGrant)
+fn put_granting(out: &mut [u64], g: Option<BasicSlotgrant>)
     requires { 26 ≤ length out.old }
     ensures { out.new ≡ sets out.old 12 (granting_words g) }
 {
     match g {
-        OptionalGrant::Without => {
+        None => {
             let words = [0u64; 4];
             record::put_words(out, READ_GRANTING, &words);
         }
-        OptionalGrant::Element(e) => {
+        Some(e) => {
             let words = slotgrant::slotgrant_words(e);
             out[READ_GRANTING] = 1;
             record::put_words(out, READ_GRANTING_ELEMENT, &words);
@@ -148,16 +145,16 @@ fn put_granting(out: &mut [u64], g: OptionalGrant)
     }
 }
 
-fn put_allocation(out: &mut [u64], a: OptionalAllocation)
+fn put_allocation(out: &mut [u64], a: Option<ChanAllocElement>)
     requires { 26 ≤ length out.old }
     ensures { out.new ≡ sets out.old 16 (allocation_words a) }
 {
     match a {
-        OptionalAllocation::Without => {
+        None => {
             let words = [0u64; 10];
             record::put_words(out, READ_ALLOCATION, &words);
         }
-        OptionalAllocation::Element(e) => {
+        Some(e) => {
             let words = allocation::channel_allocation_words(e);
             out[READ_ALLOCATION] = 1;
             record::put_words(out, READ_ALLOCATION_ELEMENT, &words);
@@ -227,33 +224,33 @@ pub fn mac_resource_known(words: &[u64]) -> bool
     allocation_known(&words[ALLOCATION..WORDS])
 }
 
-fn power_value(present: u64, v: u8) -> OptionalPower
+fn power_value(present: u64, v: u8) -> Option<u8>
     ensures { result ≡ power_value present v }
 {
     if present == 0 {
-        return OptionalPower::Without;
+        return None;
     }
-    OptionalPower::Level(v)
+    Some(v)
 }
 
-fn granting_value(words: &[u64]) -> OptionalGrant
+fn granting_value(words: &[u64]) -> Option<BasicSlotgrant>
     requires { 4 ≤ length words.now }
     ensures { result ≡ granting_value words.now }
 {
     if words[0] == 0 {
-        return OptionalGrant::Without;
+        return None;
     }
-    OptionalGrant::Element(slotgrant::slotgrant_value(&words[1..4]))
+    Some(slotgrant::slotgrant_value(&words[1..4]))
 }
 
-fn allocation_value(words: &[u64]) -> OptionalAllocation
+fn allocation_value(words: &[u64]) -> Option<ChanAllocElement>
     requires { 10 ≤ length words.now }
     ensures { result ≡ allocation_value words.now }
 {
     if words[0] == 0 {
-        return OptionalAllocation::Without;
+        return None;
     }
-    OptionalAllocation::Element(allocation::channel_allocation_value(&words[1..10]))
+    Some(allocation::channel_allocation_value(&words[1..10]))
 }
 
 // The fields before the address.
@@ -291,7 +288,7 @@ fn address_of(words: &[u64]) -> DownlinkAddress
     )
 }
 
-fn power_of(words: &[u64]) -> OptionalPower
+fn power_of(words: &[u64]) -> Option<u8>
     requires { 25 ≤ length words.now }
     ensures { result ≡ power_of_words words.now }
 {
@@ -301,9 +298,9 @@ fn power_of(words: &[u64]) -> OptionalPower
 fn assembled(
     f: FirstFields,
     addr: DownlinkAddress,
-    power_control_element: OptionalPower,
-    slot_granting_element: OptionalGrant,
-    chan_alloc_element: OptionalAllocation,
+    power_control_element: Option<u8>,
+    slot_granting_element: Option<BasicSlotgrant>,
+    chan_alloc_element: Option<ChanAllocElement>,
 ) -> MacResource
     ensures { result ≡ assembled f addr power_control_element slot_granting_element chan_alloc_element }
 {
@@ -345,9 +342,9 @@ fn bare_of(words: &[u64]) -> MacResource
     assembled(
         first_fields(words),
         address_of(words),
-        OptionalPower::Without,
-        OptionalGrant::Without,
-        OptionalAllocation::Without,
+        None,
+        None,
+        None,
     )
 }
 
@@ -435,13 +432,13 @@ pub fn tetra_mac_resource_read(
     let at = done.cursor.pos;
     let answer = done.answer;
     match answer {
-        MacResourceAnswer::Read(h) => {
+        Ok(h) => {
             if resource::is_null_pdu(h) {
                 return give_null(out, at, h.length_ind);
             }
             give_mac_resource(out, at, h)
         }
-        MacResourceAnswer::Refused(r) => record::deny(out, at, r),
+        Err(r) => record::deny(out, at, r),
     }
 }
 
@@ -479,11 +476,11 @@ pub fn tetra_mac_resource_compute_header_len(words: &[u64], out: &mut [u64]) -> 
     }
     let h = mac_resource_value(words);
     match resource::compute_header_len(h) {
-        HeaderLen::Len(n) => {
+        Ok(n) => {
             out[0] = n.0 as u64;
             0
         }
-        HeaderLen::Refused(number) => number as u64,
+        Err(number) => number as u64,
     }
 }
 
@@ -499,12 +496,12 @@ pub fn tetra_mac_resource_len_and_fill(words: &[u64], sdu_len: usize, out: &mut 
     }
     let h = mac_resource_value(words);
     match resource::update_len_and_fill_ind(h, sdu_len) {
-        LenAndFill::Counted(octets, fill, flag) => {
-            out[0] = octets.0 as u64;
-            out[1] = codec::bit(flag);
-            out[2] = fill.0 as u64;
+        Ok(n) => {
+            out[0] = n.octets.0 as u64;
+            out[1] = codec::bit(n.fill_bits);
+            out[2] = n.fill.0 as u64;
             0
         }
-        LenAndFill::Refused(number) => number as u64,
+        Err(number) => number as u64,
     }
 }

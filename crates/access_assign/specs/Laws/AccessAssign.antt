@@ -1,6 +1,6 @@
 -- An ACCESS-ASSIGN has 14 bits. One that nothing refuses is read back, and one that is read is not refused and is written as the same
 -- bits: so nothing is refused but what no bits can say.
-use Rattle.std.specs.Prelude.{ℕ, zero, suc, ◌+◌, ◌*◌, ◌/◌, ◌%◌, ◌≤◌, ◌<◌, ◌≡◌, refl, List, [], ◌∷◌, ◌++◌, Bool, true, false, length, take, drop, leb}
+use Rattle.std.specs.Prelude.{ℕ, zero, suc, ◌+◌, ◌*◌, ◌/◌, ◌%◌, ◌≤◌, ◌<◌, ◌≡◌, refl, List, [], ◌∷◌, ◌++◌, Bool, true, false, length, take, drop, leb, Err, Ok}
 use Rattle.std.proofs.Common.{sym, ap, ◌∙◌, arith, take-append-drop, length-take-le, take-take, drop-drop, lit<, leb-true, leb-false}
 use Rattle.bits.specs.Bits.{bits_of_nat, val, bits_of, bits_at, splice, put_bits, Bytes}
 use Rattle.tetra_core.specs.BitBuffer.{good_window, remaining, moved}
@@ -11,7 +11,6 @@ use Rattle.bits.proofs.Laws.Reads.{at-is, length_bits_at}
 use Rattle.bits.proofs.Laws.Writes.{bytes-put_bits, bits_of_put_bits}
 use Rattle.tetra_core.specs.Laws.Windows.{Good, good_facts}
 use Rattle.tetra_core.specs.declared.bitbuffer.Cursor.{Cursor}
-use Rattle.tetra_core.specs.declared.bitbuffer.Outcome.{Outcome}
 use Rattle.codec.specs.Reader.{Out, got, refused, parse}
 use Rattle.codec.proofs.Laws.Words.{parse-word, short}
 use Rattle.codec.specs.Header.{within}
@@ -29,7 +28,6 @@ use Rattle.access_assign.specs.Laws.AccessField.{access_field-back, access_field
 use Rattle.access_assign.specs.Laws.Usage.{dl_back, ul_back, dl_again, ul_again}
 use Rattle.access_assign.specs.declared.access_assign.AccessAssign.{AccessAssign}
 use Rattle.access_assign.specs.declared.access_assign.AccessAssign.TheVariants.{DownlinkCommonControlUplinkCommonOnly, DownlinkDefinedUplinkCommonAndAssigned, DownlinkDefinedUplinkAssignedOnly, DownlinkDefinedUplinkDefined}
-use Rattle.access_assign.specs.declared.access_assign.AccessAssignAnswer.{AccessAssignAnswer}
 use Rattle.access_assign.specs.declared.access_assign.AccessAssignRead.{AccessAssignRead}
 
 pub access_assign_length : (a : AccessAssign) → length (row_bits (access_assign_row a)) ≡ assign_size
@@ -83,10 +81,10 @@ module _ (a : AccessAssign) (e : access_assign_refusal a ≡ 0) where
 
 -- in bytes: what to_bitbuf wrote, from_bitbuf reads at the same cursor
 pub access_assign_written-back : (s : List ℕ) (c : Cursor) (a : AccessAssign) → refusal_at (length s) c (access_assign_refusal a) assign_size ≡ 0
-    → access_assign_at (access_assign_written s c a) c ≡ record { cursor = moved c assign_size; answer = AccessAssignAnswer.Read a }
+    → access_assign_at (access_assign_written s c a) c ≡ record { cursor = moved c assign_size; answer = Ok a }
 unfolding access_assign_at
 access_assign_written-back s c a e =
-    written_back read_access_assign (λ c' a'. record { cursor = c'; answer = a' }) AccessAssignAnswer.Read AccessAssignAnswer.Refused s c (access_assign_refusal a) _ (access_assign_length a) (λ rest. access_assign_back a (free _ _ _ _ e).value rest 0) e
+    written_back read_access_assign (λ c' a'. record { cursor = c'; answer = a' }) Ok Err s c (access_assign_refusal a) _ (access_assign_length a) (λ rest. access_assign_back a (free _ _ _ _ e).value rest 0) e
 
 -- ---- what is read is written again
 
@@ -163,13 +161,13 @@ put_same s c n hb g h =
 
 -- in bytes: what from_bitbuf read, to_bitbuf accepts at the same cursor, moves it as far, and changes no byte
 pub access_assign_written-again : (s : List ℕ) (c d : Cursor) (a : AccessAssign) → Bytes s
-    → access_assign_at s c ≡ record { cursor = d; answer = AccessAssignAnswer.Read a }
-    → (access_assign_write s c a ≡ record { cursor = d; answer = Outcome.Done }) × (access_assign_written s c a ≡ s)
+    → access_assign_at s c ≡ record { cursor = d; answer = Ok a }
+    → (access_assign_write s c a ≡ record { cursor = d; answer = (Ok tt) }) × (access_assign_written s c a ≡ s)
 unfolding access_assign_at
 access_assign_written-again s c d a hb e = go (good_window (length s) c) refl (parse read_access_assign (within s c) 0) refl
   where
     go : (b : Bool) → good_window (length s) c ≡ b → (q : Out AccessAssign) → parse read_access_assign (within s c) 0 ≡ q
-        → (access_assign_write s c a ≡ record { cursor = d; answer = Outcome.Done }) × (access_assign_written s c a ≡ s)
+        → (access_assign_write s c a ≡ record { cursor = d; answer = (Ok tt) }) × (access_assign_written s c a ≡ s)
     go false t q x = absurd (let f = ap (λ (r : AccessAssignRead). r.answer) (rw t at e) in let z : ◌≡◌ {A = ℕ} 0 1 = cc in omega arith)
     go true t (refused j at) x = absurd (let f = ap (λ (r : AccessAssignRead). r.answer) (rw (t, x) at e) in let z : ◌≡◌ {A = ℕ} 0 1 = cc in omega arith)
     go true t (got v r n) x =

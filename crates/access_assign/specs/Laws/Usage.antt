@@ -1,5 +1,5 @@
 -- A usage that nothing refuses has a marker of 6 bits that gives it again, and each marker of 6 bits is that of its usage.
-use Rattle.std.specs.Prelude.{ℕ, ◌≤◌, ◌<◌, ◌≡◌, refl, Bool, true, false, cond, not, ◌&&◌, ◌||◌, eqb, leb}
+use Rattle.std.specs.Prelude.{ℕ, ◌≤◌, ◌<◌, ◌≡◌, refl, Bool, true, false, cond, not, ◌&&◌, ◌||◌, eqb, leb, None, Option, Some}
 use Rattle.std.proofs.Common.{arith, lit<, leb-true, le-leb, eqb-true, ne_eqb}
 use Rattle.std.proofs.Math.ListN.{get_or-eq_default}
 use Rattle.tetra_core.specs.Refusal.{unless, first, first-none, passed}
@@ -10,8 +10,6 @@ use Rattle.access_assign.specs.declared.enums.access_assign_dl_usage.AccessAssig
 use Rattle.access_assign.specs.declared.enums.access_assign_dl_usage.AccessAssignDlUsage.TheVariants as Dl'
 use Rattle.access_assign.specs.declared.enums.access_assign_ul_usage.AccessAssignUlUsage.{AccessAssignUlUsage}
 use Rattle.access_assign.specs.declared.enums.access_assign_ul_usage.AccessAssignUlUsage.TheVariants as Ul'
-use Rattle.access_assign.specs.declared.enums.access_assign_ul_usage.UplinkUsage.{UplinkUsage}
-use Rattle.access_assign.specs.declared.enums.access_assign_ul_usage.UplinkUsage.TheVariants as Usage'
 
 traffic_facts : (n : ℕ) → traffic_refusal n ≡ 0 → (4 ≤ n) × (n < 64)
 unfolding traffic_refusal
@@ -65,18 +63,18 @@ ul_again v h m =
 
 -- ---- what an answer from a marker says of it
 
-found : (b : Bool) {u w : AccessAssignUlUsage} {r : UplinkUsage} → r ≡ cond b (Usage'.Usage w) Usage'.Nothing → r ≡ Usage'.Usage u → (b ≡ true) × (w ≡ u)
+found : (b : Bool) {u w : AccessAssignUlUsage} {r : Option AccessAssignUlUsage} → r ≡ cond b (Some w) None → r ≡ Some u → (b ≡ true) × (w ≡ u)
 found true e f = (refl, cc)
 found false e f = absurd (let z : ◌≡◌ {A = ℕ} 0 1 = cc in omega arith)
 
-missing : (b : Bool) (w : AccessAssignUlUsage) {r : UplinkUsage} → r ≡ cond b (Usage'.Usage w) Usage'.Nothing → r ≡ Usage'.Nothing → b ≡ false
+missing : (b : Bool) (w : AccessAssignUlUsage) {r : Option AccessAssignUlUsage} → r ≡ cond b (Some w) None → r ≡ None → b ≡ false
 missing true w e f = absurd (let z : ◌≡◌ {A = ℕ} 0 1 = cc in omega arith)
 missing false w e f = refl
 
-pub ul_found : (v : ℕ) {u : AccessAssignUlUsage} {r : UplinkUsage} → r ≡ ul_usage v → r ≡ Usage'.Usage u → (ul_marks v ≡ true) × (ul_usage_of v ≡ u)
+pub ul_found : (v : ℕ) {u : AccessAssignUlUsage} {r : Option AccessAssignUlUsage} → r ≡ ul_usage v → r ≡ Some u → (ul_marks v ≡ true) × (ul_usage_of v ≡ u)
 unfolding ul_usage
 ul_found v = found (ul_marks v)
 
-pub ul_missing : (v : ℕ) {r : UplinkUsage} → r ≡ ul_usage v → r ≡ Usage'.Nothing → ul_marks v ≡ false
+pub ul_missing : (v : ℕ) {r : Option AccessAssignUlUsage} → r ≡ ul_usage v → r ≡ None → ul_marks v ≡ false
 unfolding ul_usage
 ul_missing v = missing (ul_marks v) (ul_usage_of v)

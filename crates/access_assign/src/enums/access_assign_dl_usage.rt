@@ -3,7 +3,6 @@ ghost use Rattle.std.specs.Prelude.{◌≡◌};
 ghost use Rattle.access_assign.specs.Usage.{dl_marker, dl_usage_of, dl_is_traffic, dl_channel, dl_refusal};
 
 use crate::enums;
-use crate::enums::TrafficChannel;
 
 #[derive(Clone, Copy)]
 pub enum AccessAssignDlUsage {
@@ -53,15 +52,15 @@ pub fn is_traffic(u: AccessAssignDlUsage) -> bool
     }
 }
 
-pub fn get_tchan(u: AccessAssignDlUsage) -> TrafficChannel
+pub fn get_tchan(u: AccessAssignDlUsage) -> Option<u8>
     ensures { result ≡ dl_channel u }
 {
     match u {
-        AccessAssignDlUsage::Unallocated => TrafficChannel::Nothing,
-        AccessAssignDlUsage::AssignedControl => TrafficChannel::Nothing,
-        AccessAssignDlUsage::CommonControl => TrafficChannel::Nothing,
-        AccessAssignDlUsage::CommonAndAssigned => TrafficChannel::Nothing,
-        AccessAssignDlUsage::Traffic(chan) => TrafficChannel::Channel(chan),
+        AccessAssignDlUsage::Unallocated => None,
+        AccessAssignDlUsage::AssignedControl => None,
+        AccessAssignDlUsage::CommonControl => None,
+        AccessAssignDlUsage::CommonAndAssigned => None,
+        AccessAssignDlUsage::Traffic(chan) => Some(chan),
     }
 }
 

@@ -3,7 +3,6 @@ ghost use Rattle.std.specs.Prelude.{◌≡◌};
 ghost use Rattle.access_assign.specs.Usage.{ul_marker, ul_usage, ul_is_traffic, ul_channel, ul_refusal};
 
 use crate::enums;
-use crate::enums::TrafficChannel;
 use tetra_core::refusal;
 
 #[derive(Clone, Copy)]
@@ -17,43 +16,29 @@ pub enum AccessAssignUlUsage {
     Traffic(u8),
 }
 
-// The usage of a marker, or none: 1 to 3 mark nothing.
-#[derive(Clone, Copy)]
-pub enum UplinkUsage {
-    Usage(AccessAssignUlUsage),
-    Nothing,
-}
-
-// The marker of a usage, or none.
-#[derive(Clone, Copy)]
-pub enum UplinkMarker {
-    Marker(u8),
-    Nothing,
-}
-
 // The usage of a marker.
-pub fn from_usage_marker(field: u8) -> UplinkUsage
+pub fn from_usage_marker(field: u8) -> Option<AccessAssignUlUsage>
     ensures { result ≡ ul_usage field }
 {
     if field == 0 {
-        return UplinkUsage::Usage(AccessAssignUlUsage::Unallocated);
+        return Some(AccessAssignUlUsage::Unallocated);
     }
     if field < 4 {
-        return UplinkUsage::Nothing;
+        return None;
     }
-    UplinkUsage::Usage(AccessAssignUlUsage::Traffic(field))
+    Some(AccessAssignUlUsage::Traffic(field))
 }
 
 // The marker of a usage.
-pub fn to_usage_marker(u: AccessAssignUlUsage) -> UplinkMarker
+pub fn to_usage_marker(u: AccessAssignUlUsage) -> Option<u8>
     ensures { result ≡ ul_marker u }
 {
     match u {
-        AccessAssignUlUsage::CommonOnly => UplinkMarker::Nothing,
-        AccessAssignUlUsage::CommonAndAssigned => UplinkMarker::Nothing,
-        AccessAssignUlUsage::AssignedOnly => UplinkMarker::Nothing,
-        AccessAssignUlUsage::Unallocated => UplinkMarker::Marker(0),
-        AccessAssignUlUsage::Traffic(chan) => UplinkMarker::Marker(chan),
+        AccessAssignUlUsage::CommonOnly => None,
+        AccessAssignUlUsage::CommonAndAssigned => None,
+        AccessAssignUlUsage::AssignedOnly => None,
+        AccessAssignUlUsage::Unallocated => Some(0),
+        AccessAssignUlUsage::Traffic(chan) => Some(chan),
     }
 }
 
@@ -69,15 +54,15 @@ pub fn is_traffic(u: AccessAssignUlUsage) -> bool
     }
 }
 
-pub fn get_tchan(u: AccessAssignUlUsage) -> TrafficChannel
+pub fn get_tchan(u: AccessAssignUlUsage) -> Option<u8>
     ensures { result ≡ ul_channel u }
 {
     match u {
-        AccessAssignUlUsage::CommonOnly => TrafficChannel::Nothing,
-        AccessAssignUlUsage::CommonAndAssigned => TrafficChannel::Nothing,
-        AccessAssignUlUsage::AssignedOnly => TrafficChannel::Nothing,
-        AccessAssignUlUsage::Unallocated => TrafficChannel::Nothing,
-        AccessAssignUlUsage::Traffic(chan) => TrafficChannel::Channel(chan),
+        AccessAssignUlUsage::CommonOnly => None,
+        AccessAssignUlUsage::CommonAndAssigned => None,
+        AccessAssignUlUsage::AssignedOnly => None,
+        AccessAssignUlUsage::Unallocated => None,
+        AccessAssignUlUsage::Traffic(chan) => Some(chan),
     }
 }
 

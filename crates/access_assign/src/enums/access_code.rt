@@ -10,13 +10,6 @@ pub enum AccessCode {
     AccessCodeD,
 }
 
-// The case of a number, or none.
-#[derive(Clone, Copy)]
-pub enum AccessCodeCase {
-    Case(AccessCode),
-    Nothing,
-}
-
 // The case of a field's bits, the low 2 of v.
 pub fn from_raw(v: u64) -> AccessCode
     ensures { result ≡ access_code_of v }
@@ -30,13 +23,13 @@ pub fn from_raw(v: u64) -> AccessCode
 }
 
 // The case of a number; above 3 there is none.
-pub fn try_from(v: u64) -> AccessCodeCase
+pub fn try_from(v: u64) -> Option<AccessCode>
     ensures { result ≡ access_code_case v }
 {
     if 3 < v {
-        return AccessCodeCase::Nothing;
+        return None;
     }
-    AccessCodeCase::Case(from_raw(v))
+    Some(from_raw(v))
 }
 
 pub fn into_raw(a: AccessCode) -> u64

@@ -26,13 +26,6 @@ pub enum BaseFrameLength {
     Subslots32,
 }
 
-// The case of a number, or none.
-#[derive(Clone, Copy)]
-pub enum BaseFrameLengthCase {
-    Case(BaseFrameLength),
-    Nothing,
-}
-
 // The case of a field's bits, the low 4 of v.
 pub fn from_raw(v: u64) -> BaseFrameLength
     ensures { result ≡ base_frame_length_of v }
@@ -58,13 +51,13 @@ pub fn from_raw(v: u64) -> BaseFrameLength
 }
 
 // The case of a number; above 15 there is none.
-pub fn try_from(v: u64) -> BaseFrameLengthCase
+pub fn try_from(v: u64) -> Option<BaseFrameLength>
     ensures { result ≡ base_frame_length_case v }
 {
     if 15 < v {
-        return BaseFrameLengthCase::Nothing;
+        return None;
     }
-    BaseFrameLengthCase::Case(from_raw(v))
+    Some(from_raw(v))
 }
 
 pub fn into_raw(l: BaseFrameLength) -> u64

@@ -5,6 +5,6 @@ pub returns-in-At : goal.returns-in-At
 unfolding after_end
 returns-in-At c = rw c.in-At.is
 
-pub returns-in-Unknown : goal.returns-in-Unknown
+pub returns-in-None : goal.returns-in-None
 unfolding after_end
-returns-in-Unknown c = rw c.in-Unknown.is
+returns-in-None c = rw c.in-None.is

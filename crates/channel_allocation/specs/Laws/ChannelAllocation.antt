@@ -1,6 +1,6 @@
 -- A channel allocation that nothing refuses fits its bits and is as long as its length says; what was written is read back in its normal
 -- form, and what was read is written as the same bits.
-use Rattle.std.specs.Prelude.{ℕ, ◌-◌, zero, suc, ◌+◌, ◌*◌, ◌≤◌, ◌<◌, ◌≡◌, refl, Bool, cond, length, take, ltb}
+use Rattle.std.specs.Prelude.{ℕ, ◌-◌, zero, suc, ◌+◌, ◌*◌, ◌≤◌, ◌<◌, ◌≡◌, refl, Bool, cond, length, take, ltb, Err, None, Ok, Option, Some}
 use mathlib.Core.List.{List, [], ◌∷◌, ◌++◌, append_assoc, append-nil}
 use Rattle.std.proofs.Math.Bool.{true, false}
 use Rattle.std.proofs.Common.{arith, zero-add, length-append, lit<, lit≤}
@@ -31,11 +31,7 @@ use Rattle.channel_allocation.specs.declared.enums.alloc_type.ChanAllocType.TheV
 use Rattle.channel_allocation.specs.declared.enums.ul_dl_assignment.UlDlAssignment.{UlDlAssignment}
 use Rattle.channel_allocation.specs.declared.enums.ul_dl_assignment.UlDlAssignment.TheVariants.{Augmented, Dl, Ul, Both}
 use Rattle.channel_allocation.specs.declared.channel_allocation.TimeslotsAssigned.{TimeslotsAssigned}
-use Rattle.channel_allocation.specs.declared.channel_allocation.Frame18Pattern.{Frame18Pattern}
-use Rattle.channel_allocation.specs.declared.channel_allocation.Frame18Pattern.TheVariants.{Without, Pattern}
 use Rattle.channel_allocation.specs.declared.channel_allocation.ChanAllocElement.{ChanAllocElement}
-use Rattle.channel_allocation.specs.declared.channel_allocation.ChannelAllocationAnswer.{ChannelAllocationAnswer}
-use Rattle.channel_allocation.specs.declared.channel_allocation.ChanAllocLen.{ChanAllocLen}
 
 -- the number of a case has 2 bits and gives the case
 pub alloc_type-back : (a : ChanAllocType) → (alloc_type_number a < 4) × (alloc_type_of (alloc_type_number a) ≡ a)
@@ -85,9 +81,9 @@ pub timeslots_back : (t : TimeslotsAssigned) → timeslots_of (timeslots_number 
 timeslots_back t = slots t.ts1 t.ts2 t.ts3 t.ts4
 
 -- a frame-18 pattern that is not refused has 2 bits, and its number gives it
-pub pattern-back : (p : Frame18Pattern) → pattern_refusal p ≡ 0 → (frame18_number p < 4) × (Pattern (frame18_number p) ≡ p)
-pattern-back Without e = absurd (omega arith)
-pattern-back (Pattern v) e = (ltb-true v 4 (passed _ 2 e), refl)
+pub pattern-back : (p : Option ℕ) → pattern_refusal p ≡ 0 → (frame18_number p < 4) × (Some (frame18_number p) ≡ p)
+pattern-back None e = absurd (omega arith)
+pattern-back (Some v) e = (ltb-true v 4 (passed _ 2 e), refl)
 
 -- ---- the length
 
@@ -108,7 +104,7 @@ channel_allocation-len e = go (eqb e.mon_pattern 0)
     go false = (lit≤ tt, lit≤ tt)
 
 -- a length that is refused, by r as the code has it
-pub len-refused : (r j n : ℕ) → r ≡ j → (r ≡ 0 → ⊥) → ChanAllocLen.Refused r ≡ len_or j n
+pub len-refused : (r j n : ℕ) → r ≡ j → (r ≡ 0 → ⊥) → Err r ≡ len_or j n
 len-refused r zero n e h = absurd (h e)
 len-refused r (suc j) n e h = rw e
 
@@ -125,7 +121,7 @@ module _ (e : ChanAllocElement) (h : channel_allocation_refusal e ≡ 0) where
       (ltb-true _ _ (passed _ 2 a.0), ltb-true _ _ (passed _ 2 b.0), c.0, (first-none (len_refusal e) _ c.1).0)
 
   -- where it is written
-  pub frame18-fits : e.mon_pattern ≡ 0 → (frame18_number e.frame18_mon_pattern < 4) × (Pattern (frame18_number e.frame18_mon_pattern) ≡ e.frame18_mon_pattern)
+  pub frame18-fits : e.mon_pattern ≡ 0 → (frame18_number e.frame18_mon_pattern < 4) × (Some (frame18_number e.frame18_mon_pattern) ≡ e.frame18_mon_pattern)
   unfolding frame18_refusal
   frame18-fits z = pattern-back e.frame18_mon_pattern (rw (eq-eqb _ _ z) at channel_allocation-told.2)
 
@@ -143,7 +139,7 @@ module _ (e : ChanAllocElement) (h : channel_allocation_refusal e ≡ 0) where
   )
 
   -- a write that is accepted has the length that is computed
-  pub channel_allocation-counted : compute_len e ≡ ChanAllocLen.Len (record { 0 = length (channel_allocation_bits e) })
+  pub channel_allocation-counted : compute_len e ≡ Ok (record { 0 = length (channel_allocation_bits e) })
   unfolding compute_len
   channel_allocation-counted = rw (channel_allocation-told.3, channel_allocation-length e)
 
@@ -197,10 +193,10 @@ module _ (e : ChanAllocElement) (h : channel_allocation_refusal e ≡ 0) where
 -- in bytes: what to_bitbuf wrote, from_bitbuf reads at the same cursor
 pub channel_allocation-written-back : (s : List ℕ) (c : Cursor) (e : ChanAllocElement) → refusal_at (length s) c (channel_allocation_refusal e) (channel_allocation_len e) ≡ 0
     → channel_allocation_at (channel_allocation_written s c e) c
-    ≡ record { cursor = moved c (channel_allocation_len e); answer = ChannelAllocationAnswer.Read (normal_channel_allocation e) }
+    ≡ record { cursor = moved c (channel_allocation_len e); answer = Ok (normal_channel_allocation e) }
 unfolding channel_allocation_at
 channel_allocation-written-back s c e h =
-    written_back read_channel_allocation (λ c' a'. record { cursor = c'; answer = a' }) ChannelAllocationAnswer.Read ChannelAllocationAnswer.Refused s c (channel_allocation_refusal e) (channel_allocation_bits e) (channel_allocation-length e)
+    written_back read_channel_allocation (λ c' a'. record { cursor = c'; answer = a' }) Ok Err s c (channel_allocation_refusal e) (channel_allocation_bits e) (channel_allocation-length e)
     (λ rest. rw zero-add at (channel_allocation-back e (free _ _ _ _ h).value rest 0)) h
 
 -- ---- what is read, written again
@@ -227,8 +223,8 @@ abbrev pub ChannelAllocationAgain : ChanAllocElement → List Bool → Type 0
 ChannelAllocationAgain e xs = (channel_allocation_refusal e ≡ 0) × (normal_channel_allocation e ≡ e) × (channel_allocation_bits e ≡ xs)
 
 -- the fields that are read, with the frame-18 pattern p, whose bits are ys
-fields-again : {a t d c f k x m : ℕ} (p : Frame18Pattern) (ys : List Bool) → a < 4 → t < 16 → d < 4 → eqb d 0 ≡ false → c < 2 → f < 2 → k < 4096 → x < 2 → flag x ≡ false → m < 4
-    → cond (eqb m 0) (pattern_refusal p) 0 ≡ 0 → cond (eqb m 0) p Without ≡ p → row_bits (cond (eqb m 0) (cell 2 (frame18_number p) ∷ []) []) ≡ ys
+fields-again : {a t d c f k x m : ℕ} (p : Option ℕ) (ys : List Bool) → a < 4 → t < 16 → d < 4 → eqb d 0 ≡ false → c < 2 → f < 2 → k < 4096 → x < 2 → flag x ≡ false → m < 4
+    → cond (eqb m 0) (pattern_refusal p) 0 ≡ 0 → cond (eqb m 0) p None ≡ p → row_bits (cond (eqb m 0) (cell 2 (frame18_number p) ∷ []) []) ≡ ys
     → ChannelAllocationAgain
     (record {
       alloc_type = alloc_type_of a;
@@ -262,8 +258,8 @@ unfolding read_channel_allocation read_mon_patterns row_bits
 channel_allocation_every a ha t ht _ d hd c hc f hf k hk _ x hx = (
   λ _. tt,
   λ x0 m hm. (
-    λ m0 v hv. (λ _. tt, λ d0. fields-again (Pattern v) (bits_of_nat 2 v ++ []) ha ht hd d0 hc hf hk hx x0 hm (rw (m0, lt-ltb v 4 hv)) (rw m0) (rw m0)),
-    λ m0. (λ _. tt, λ d0. fields-again Without [] ha ht hd d0 hc hf hk hx x0 hm (rw m0) (rw m0) (rw m0)),
+    λ m0 v hv. (λ _. tt, λ d0. fields-again (Some v) (bits_of_nat 2 v ++ []) ha ht hd d0 hc hf hk hx x0 hm (rw (m0, lt-ltb v 4 hv)) (rw m0) (rw m0)),
+    λ m0. (λ _. tt, λ d0. fields-again None [] ha ht hd d0 hc hf hk hx x0 hm (rw m0) (rw m0) (rw m0)),
   ),
 )
 

@@ -10,13 +10,6 @@ pub enum ChanAllocType {
     ReplaceWithCarrierSignalling,
 }
 
-// The case of a number, or none.
-#[derive(Clone, Copy)]
-pub enum AllocTypeCase {
-    Case(ChanAllocType),
-    Nothing,
-}
-
 // The case of a field's bits, the low 2 of v.
 pub fn from_raw(v: u64) -> ChanAllocType
     ensures { result ≡ alloc_type_of v }
@@ -30,13 +23,13 @@ pub fn from_raw(v: u64) -> ChanAllocType
 }
 
 // The case of a number; above 3 there is none.
-pub fn try_from(v: u64) -> AllocTypeCase
+pub fn try_from(v: u64) -> Option<ChanAllocType>
     ensures { result ≡ alloc_type_case v }
 {
     if 3 < v {
-        return AllocTypeCase::Nothing;
+        return None;
     }
-    AllocTypeCase::Case(from_raw(v))
+    Some(from_raw(v))
 }
 
 pub fn into_raw(a: ChanAllocType) -> u64

@@ -10,13 +10,6 @@ pub enum UlDlAssignment {
     Both,
 }
 
-// The case of a number, or none.
-#[derive(Clone, Copy)]
-pub enum UlDlCase {
-    Case(UlDlAssignment),
-    Nothing,
-}
-
 // The case of a field's bits, the low 2 of v.
 pub fn from_raw(v: u64) -> UlDlAssignment
     ensures { result ≡ ul_dl_of v }
@@ -30,13 +23,13 @@ pub fn from_raw(v: u64) -> UlDlAssignment
 }
 
 // The case of a number; above 3 there is none.
-pub fn try_from(v: u64) -> UlDlCase
+pub fn try_from(v: u64) -> Option<UlDlAssignment>
     ensures { result ≡ ul_dl_case v }
 {
     if 3 < v {
-        return UlDlCase::Nothing;
+        return None;
     }
-    UlDlCase::Case(from_raw(v))
+    Some(from_raw(v))
 }
 
 pub fn into_raw(a: UlDlAssignment) -> u64

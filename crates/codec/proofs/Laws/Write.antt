@@ -1,12 +1,11 @@
 -- The laws of specs/Write.antt.
-use Rattle.std.specs.Prelude.{ℕ, zero, suc, ◌≡◌, refl, List, [], ◌∷◌, Bool, true, false, length, leb}
+use Rattle.std.specs.Prelude.{ℕ, zero, suc, ◌≡◌, refl, List, [], ◌∷◌, Bool, true, false, length, leb, Err, Ok}
 use Rattle.std.proofs.Common.{sym, ◌∙◌, arith, leb-true, le-leb}
 use Rattle.bits.specs.Bits.{put_bits}
 use Rattle.tetra_core.specs.BitBuffer.{good_window, remaining, moved}
 use Rattle.tetra_core.specs.Refusal.{unless, first, first-none, passed}
 use Rattle.tetra_core.specs.Laws.Windows.{good_facts, good_test, move_refused, move_done, bytes-refused, bytes-done}
 use Rattle.tetra_core.specs.declared.bitbuffer.Cursor.{Cursor}
-use Rattle.tetra_core.specs.declared.bitbuffer.Outcome.TheVariants.{Done, Refused}
 use Rattle.codec.specs.Write.{refusal_at, write_at, written_at, Free}
 
 pub free : (len : ℕ) (c : Cursor) (j n : ℕ) → refusal_at len c j n ≡ 0 → Free len c j n
@@ -25,12 +24,12 @@ free_test len c j n f = simp (good_test len c f.good, f.value, le-leb n (remaini
 
 -- the two returns of a call: i is the value's refusal and r the call's, n is the number of bits, as the code has them
 pub write_refused : (s : List ℕ) (c : Cursor) (xs : List Bool) {i j n r : ℕ} → length xs ≡ n → i ≡ j → r ≡ refusal_at (length s) c i n → (r ≡ 0 → ⊥)
-    → (record { cursor = c; answer = Refused r } ≡ write_at s c j xs) × (s ≡ written_at s c j xs)
+    → (record { cursor = c; answer = Err r } ≡ write_at s c j xs) × (s ≡ written_at s c j xs)
 unfolding write_at written_at
 write_refused s c xs l v e h = rw (l, ← v) (move_refused _ _ _ _ e h, bytes-refused _ _ _ _ e h)
 
 pub write_done : (s : List ℕ) (c : Cursor) (xs : List Bool) {i j n r : ℕ} {t : List ℕ} → length xs ≡ n → i ≡ j → r ≡ refusal_at (length s) c i n → r ≡ 0
-    → t ≡ put_bits s c.pos xs → (record { cursor = moved c n; answer = Done } ≡ write_at s c j xs) × (t ≡ written_at s c j xs)
+    → t ≡ put_bits s c.pos xs → (record { cursor = moved c n; answer = (Ok tt) } ≡ write_at s c j xs) × (t ≡ written_at s c j xs)
 unfolding write_at written_at
 write_done s c xs l v e z p = rw (l, ← v) (move_done _ _ _ (sym e ∙ z), p ∙ bytes-done _ _ _ (sym e ∙ z))
 

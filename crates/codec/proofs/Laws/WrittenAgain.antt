@@ -1,5 +1,5 @@
 -- The laws of specs/WrittenAgain.antt.
-use Rattle.std.specs.Prelude.{ℕ, ◌+◌, ◌-◌, ◌*◌, ◌^◌, ◌≤◌, ◌<◌, ◌≡◌, refl, List, [], ◌++◌, Bool, true, false, length, take, drop, leb}
+use Rattle.std.specs.Prelude.{ℕ, ◌+◌, ◌-◌, ◌*◌, ◌^◌, ◌≤◌, ◌<◌, ◌≡◌, refl, List, [], ◌++◌, Bool, true, false, length, take, drop, leb, Ok}
 use Rattle.std.proofs.Common.{sym, ap, ◌∙◌, subst, append_assoc, arith, take-append-drop, length-take-le, take-add, take-take, drop-drop, leb-true, leb-false}
 use Rattle.std.proofs.Math.Nat.{sub_self}
 use Rattle.bits.specs.Bits.{val, bits_of_nat, bits_of, splice, bits_at, put_bits, Bytes}
@@ -10,7 +10,6 @@ use Rattle.bits.proofs.Laws.Writes.{bits_of_put_bits, bytes-put_bits}
 use Rattle.tetra_core.specs.BitBuffer.{good_window, remaining, moved}
 use Rattle.tetra_core.specs.Laws.Windows.{good_facts}
 use Rattle.tetra_core.specs.declared.bitbuffer.Cursor.{Cursor}
-use Rattle.tetra_core.specs.declared.bitbuffer.Outcome.TheVariants.{Done}
 use Rattle.tetra_core.specs.declared.refusal.Refusal.{Refusal}
 use Rattle.codec.specs.Reader.{Out, got, refused, Reader, done, refuse, field, here, choose, parse, ◌>>=◌}
 use Rattle.codec.proofs.Laws.Reader.{field-there, field-short, inside}
@@ -90,7 +89,7 @@ read-bits {p = p} {s} {c} {d} h =
 
 -- the bits xs of the value that was read are written at the same cursor
 pub written-again : {A : Type 0} {p : Reader A} {s : List ℕ} {c d : Cursor} {v : A} (h : ReadAt p s c v d) (xs : List Bool) {j : ℕ} → Bytes s
-    → xs ≡ take h.count (within s c) → j ≡ 0 → (write_at s c j xs ≡ record { cursor = d; answer = Done }) × (written_at s c j xs ≡ s)
+    → xs ≡ take h.count (within s c) → j ≡ 0 → (write_at s c j xs ≡ record { cursor = d; answer = (Ok tt) }) × (written_at s c j xs ≡ s)
 written-again {p = p} {s} {c} {d} h xs {j} b e z =
     let g = h.good in
     let n = h.count in

@@ -1,5 +1,5 @@
 -- A MAC-ACCESS that is written has its length and is read back, and one that was read is written again.
-use Rattle.std.specs.Prelude.{ℕ, ◌+◌, ◌≡◌, refl, List, ◌++◌, Bool, length, take}
+use Rattle.std.specs.Prelude.{ℕ, ◌+◌, ◌≡◌, refl, List, ◌++◌, Bool, length, take, Err, Ok}
 use Rattle.std.proofs.Common.{ap, ◌∙◌, arith, zero-add, lit<, leb-true, le-leb, eqb-true}
 use Rattle.std.proofs.Math.Nat.{sub-zero}
 use Rattle.bits.specs.Bits.{Bytes}
@@ -7,7 +7,6 @@ use Rattle.tetra_core.specs.BitBuffer.{moved}
 use Rattle.tetra_core.specs.Refusal.{passed}
 use Rattle.bits.proofs.Laws.Values.{digit_lt}
 use Rattle.tetra_core.specs.declared.bitbuffer.Cursor.{Cursor}
-use Rattle.tetra_core.specs.declared.bitbuffer.Outcome.TheVariants.{Done}
 use Rattle.codec.specs.Reader.{got, parse}
 use Rattle.codec.specs.Header.{within}
 use Rattle.codec.specs.Row.{size, row_bits, RowFits}
@@ -25,7 +24,6 @@ use Rattle.mac_access.specs.MacAccess.{head_of, mac_access_of, read_request, rea
 use Rattle.mac_access.specs.declared.mac_access.MacAccessOption.{MacAccessOption}
 use Rattle.mac_access.specs.declared.mac_access.MacAccessOption.TheVariants.{Without, LengthInd, CapacityRequest}
 use Rattle.mac_access.specs.declared.mac_access.MacAccess.{MacAccess}
-use Rattle.mac_access.specs.declared.mac_access.MacAccessAnswer.{MacAccessAnswer}
 use Rattle.mac_access.specs.declared.mac_access.MacAccessRead.{MacAccessRead}
 
 pub option_fits : (o : MacAccessOption) → option_refusal o ≡ 0 → RowFits (option_row o)
@@ -56,10 +54,10 @@ mac_access_back h e =
 
 -- in bytes: what to_bitbuf wrote, from_bitbuf reads at the same cursor
 pub mac_access_written-back : (s : List ℕ) (c : Cursor) (h : MacAccess) → refusal_at (length s) c (mac_access_refusal h) (mac_access_size h) ≡ 0
-    → mac_access_at (mac_access_written s c h) c ≡ record { cursor = moved c (mac_access_size h); answer = MacAccessAnswer.Read (normal h) }
+    → mac_access_at (mac_access_written s c h) c ≡ record { cursor = moved c (mac_access_size h); answer = Ok (normal h) }
 unfolding mac_access_at
 mac_access_written-back s c h e =
-    written_back read_mac_access (λ c' a'. record { cursor = c'; answer = a' }) MacAccessAnswer.Read MacAccessAnswer.Refused s c (mac_access_refusal h) _ (mac_access_length h)
+    written_back read_mac_access (λ c' a'. record { cursor = c'; answer = a' }) Ok Err s c (mac_access_refusal h) _ (mac_access_length h)
     (λ rest. mac_access_back h (free _ _ _ _ e).value rest 0 ∙ rw zero-add) e
 
 -- ---- what was read is written again
@@ -84,12 +82,12 @@ mac_access_again bs e =
     (λ head a xs fits k. (λ z. allowed_test _ _ _ (record { encryption = z; address = fits; fields = k.0 }), rw (rows_append, k.1)))) bs 0 e)
 
 -- in bytes: what from_bitbuf read, to_bitbuf writes at the same cursor, and no byte changes
-pub mac_access_written-again : (s : List ℕ) (c d : Cursor) (h : MacAccess) → Bytes s → mac_access_at s c ≡ record { cursor = d; answer = MacAccessAnswer.Read h }
+pub mac_access_written-again : (s : List ℕ) (c d : Cursor) (h : MacAccess) → Bytes s → mac_access_at s c ≡ record { cursor = d; answer = Ok h }
     → encryption_refusal h.encrypted h.addr ≡ 0
-    → (mac_access_write s c h ≡ record { cursor = d; answer = Done }) × (mac_access_written s c h ≡ s)
+    → (mac_access_write s c h ≡ record { cursor = d; answer = (Ok tt) }) × (mac_access_written s c h ≡ s)
 unfolding mac_access_at
 mac_access_written-again s c d h b e f =
-    let r = read_at read_mac_access (λ c' a'. record { cursor = c'; answer = a' }) MacAccessAnswer.Read MacAccessAnswer.Refused s c d h
+    let r = read_at read_mac_access (λ c' a'. record { cursor = c'; answer = a' }) Ok Err s c d h
     (λ x a q. (ap (λ (t : MacAccessRead). t.cursor) q, let u = ap (λ (t : MacAccessRead). t.answer) q in cc))
     (λ x j q. let u = ap (λ (t : MacAccessRead). t.answer) q in let z : ◌≡◌ {A = ℕ} 0 1 = cc in omega arith) e in
     let a = mac_access_again (within s c) r.seen in

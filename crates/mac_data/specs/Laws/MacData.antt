@@ -1,5 +1,5 @@
 -- A MAC-DATA that is written has its length and is read back, and one that was read is written again.
-use Rattle.std.specs.Prelude.{ℕ, zero, suc, ◌+◌, ◌-◌, ◌<◌, ◌≡◌, refl, List, [], ◌∷◌, ◌++◌, Bool, true, false, length, take, get_or}
+use Rattle.std.specs.Prelude.{ℕ, zero, suc, ◌+◌, ◌-◌, ◌<◌, ◌≡◌, refl, List, [], ◌∷◌, ◌++◌, Bool, true, false, length, take, get_or, Err, Ok}
 use Rattle.std.proofs.Common.{ap, ◌∙◌, append_assoc, append-nil, arith, zero-add, length-append, lit<, leb-true, le-leb, eqb-true}
 use Rattle.std.proofs.Math.Nat.{sub-zero}
 use Rattle.std.proofs.lemmas.List.{get_or_at}
@@ -8,7 +8,6 @@ use Rattle.tetra_core.specs.BitBuffer.{moved}
 use Rattle.tetra_core.specs.Refusal.{passed}
 use Rattle.bits.proofs.Laws.Values.{digit_lt}
 use Rattle.tetra_core.specs.declared.bitbuffer.Cursor.{Cursor}
-use Rattle.tetra_core.specs.declared.bitbuffer.Outcome.TheVariants.{Done}
 use Rattle.codec.specs.Reader.{got, parse}
 use Rattle.codec.specs.Header.{within}
 use Rattle.codec.specs.Row.{size, row_bits, RowFits}
@@ -27,7 +26,6 @@ use Rattle.mac_data.specs.MacData.{option_size, head_of, mac_data_of, read_reque
 use Rattle.mac_data.specs.declared.mac_data.MacDataOption.{MacDataOption}
 use Rattle.mac_data.specs.declared.mac_data.MacDataOption.TheVariants.{LengthInd, CapacityRequest}
 use Rattle.mac_data.specs.declared.mac_data.MacData.{MacData}
-use Rattle.mac_data.specs.declared.mac_data.MacDataAnswer.{MacDataAnswer}
 use Rattle.mac_data.specs.declared.mac_data.MacDataRead.{MacDataRead}
 
 pub option_fits : (o : MacDataOption) → option_refusal o ≡ 0 → RowFits (option_row o)
@@ -60,10 +58,10 @@ mac_data_back h e =
 
 -- in bytes: what to_bitbuf wrote, from_bitbuf reads at the same cursor
 pub mac_data_written-back : (s : List ℕ) (c : Cursor) (h : MacData) → refusal_at (length s) c (mac_data_refusal h) (mac_data_size h) ≡ 0
-    → mac_data_at (mac_data_written s c h) c ≡ record { cursor = moved c (mac_data_size h); answer = MacDataAnswer.Read (normal h) }
+    → mac_data_at (mac_data_written s c h) c ≡ record { cursor = moved c (mac_data_size h); answer = Ok (normal h) }
 unfolding mac_data_at
 mac_data_written-back s c h e =
-    written_back read_mac_data (λ c' a'. record { cursor = c'; answer = a' }) MacDataAnswer.Read MacDataAnswer.Refused s c (mac_data_refusal h) _ (mac_data_length h)
+    written_back read_mac_data (λ c' a'. record { cursor = c'; answer = a' }) Ok Err s c (mac_data_refusal h) _ (mac_data_length h)
     (λ rest. mac_data_back h (free _ _ _ _ e).value rest 0 ∙ rw zero-add) e
 
 -- ---- what was read is written again, where its reserved bit is 0
@@ -103,12 +101,12 @@ mac_data_again bs e =
     ))) bs 0 e)
 
 -- in bytes: what from_bitbuf read, to_bitbuf writes at the same cursor, and no byte changes
-pub mac_data_written-again : (s : List ℕ) (c d : Cursor) (h : MacData) → Bytes s → mac_data_at s c ≡ record { cursor = d; answer = MacDataAnswer.Read h }
+pub mac_data_written-again : (s : List ℕ) (c d : Cursor) (h : MacData) → Bytes s → mac_data_at s c ≡ record { cursor = d; answer = Ok h }
     → encryption_refusal h.encrypted h.addr ≡ 0 → reserved_bit h.option (bits_at s c.pos (d.pos - c.pos)) ≡ false
-    → (mac_data_write s c h ≡ record { cursor = d; answer = Done }) × (mac_data_written s c h ≡ s)
+    → (mac_data_write s c h ≡ record { cursor = d; answer = (Ok tt) }) × (mac_data_written s c h ≡ s)
 unfolding mac_data_at
 mac_data_written-again s c d h b e f z =
-    let r = read_at read_mac_data (λ c' a'. record { cursor = c'; answer = a' }) MacDataAnswer.Read MacDataAnswer.Refused s c d h
+    let r = read_at read_mac_data (λ c' a'. record { cursor = c'; answer = a' }) Ok Err s c d h
     (λ x a q. (ap (λ (t : MacDataRead). t.cursor) q, let u = ap (λ (t : MacDataRead). t.answer) q in cc))
     (λ x j q. let u = ap (λ (t : MacDataRead). t.answer) q in let z : ◌≡◌ {A = ℕ} 0 1 = cc in omega arith) e in
     let a = mac_data_again (within s c) r.seen in

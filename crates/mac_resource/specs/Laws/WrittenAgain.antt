@@ -1,5 +1,5 @@
 -- What is read, written again, gives the bits that were read, wherever nothing was cleared.
-use Rattle.std.specs.Prelude.{ℕ, zero, suc, ◌-◌, ◌^◌, ◌<◌, ◌≡◌, refl, List, [], ◌∷◌, ◌++◌, Bool, true, false, not, take, eqb}
+use Rattle.std.specs.Prelude.{ℕ, zero, suc, ◌-◌, ◌^◌, ◌<◌, ◌≡◌, refl, List, [], ◌∷◌, ◌++◌, Bool, true, false, not, take, eqb, Err, Ok}
 use Rattle.std.proofs.Common.{sym, ap, ◌∙◌, append-nil, true≢false, arith, eqb-true, lt-ltb}
 use Rattle.std.proofs.lemmas.Bool.{not-false}
 use Rattle.tetra_core.specs.Refusal.{unless, first}
@@ -24,7 +24,6 @@ use Rattle.mac_resource.specs.declared.enums.mac_resource_addr_type.MacResourceA
 use Rattle.mac_resource.specs.declared.fixed.Fixed.{Fixed}
 use Rattle.optional_elements.specs.declared.elements.Elements.{Elements}
 use Rattle.mac_resource.specs.declared.mac_resource.MacResource.{MacResource}
-use Rattle.mac_resource.specs.declared.mac_resource.MacResourceAnswer.{MacResourceAnswer}
 use Rattle.mac_resource.specs.declared.mac_resource.MacResourceRead.{MacResourceRead}
 
 -- ---- the first 16 bits
@@ -125,11 +124,11 @@ pub mac_resource_again : (bs : List Bool) (o : ℕ) {h : MacResource} {r : List 
 mac_resource_again = every_read read_mac_resource MacResourceAgain mac_resource_every
 
 -- at a cursor: a null header that was read has nothing but its length
-pub null-read : (s : List ℕ) (c d : Cursor) (h : MacResource) → mac_resource_at s c ≡ record { cursor = d; answer = MacResourceAnswer.Read h }
+pub null-read : (s : List ℕ) (c d : Cursor) (h : MacResource) → mac_resource_at s c ≡ record { cursor = d; answer = Ok h }
     → is_null h.addr ≡ true → h ≡ null_of h.length_ind
 unfolding mac_resource_at
 null-read s c d h e n =
-    let r = read_at read_mac_resource (λ c' a'. record { cursor = c'; answer = a' }) MacResourceAnswer.Read MacResourceAnswer.Refused s c d h
+    let r = read_at read_mac_resource (λ c' a'. record { cursor = c'; answer = a' }) Ok Err s c d h
     (λ x a q. (ap (λ (t : MacResourceRead). t.cursor) q, let u = ap (λ (t : MacResourceRead). t.answer) q in cc))
     (λ x j q. let u = ap (λ (t : MacResourceRead). t.answer) q in let z : ◌≡◌ {A = ℕ} 0 1 = cc in omega arith) e in
     let k = (mac_resource_again (within s c) 0 r.seen).0 n in

@@ -1,6 +1,6 @@
 -- The elements of a MAC-RESOURCE: what is known where nothing refuses them, how long they are, what was written is read back, and what was
 -- read is written again.
-use Rattle.std.specs.Prelude.{ℕ, ◌+◌, ◌≤◌, ◌≡◌, refl, Bool, true, false, ◌&&◌, eqb, leb, length}
+use Rattle.std.specs.Prelude.{ℕ, ◌+◌, ◌≤◌, ◌≡◌, refl, Bool, true, false, ◌&&◌, eqb, leb, length, None, Option, Some}
 use Rattle.std.proofs.Common.{sym, true≢false, arith, lit<, length-append, leb-true, eqb-true}
 use mathlib.Core.List.{List, ◌++◌, append_assoc, append-nil}
 use Rattle.std.proofs.Math.Nat.{add_assoc}
@@ -21,9 +21,6 @@ use Rattle.optional_elements.specs.GrantAndAllocation.{read_grant_and_allocation
 use Rattle.optional_elements.specs.Elements.{flags_len, elements_most, elements_len, no_elements, is_bare, no_element, read_elements, elements_refusal, elements_bits, normal_elements}
 use Rattle.optional_elements.specs.Laws.PowerControl.{power-length, power-bounds, power-back, PowerAgain, power_every}
 use Rattle.optional_elements.specs.Laws.GrantAndAllocation.{grant_and_allocation-length, grant_and_allocation-bounds, grant_and_allocation-back, GrantAndAllocationAgain, grant_and_allocation_every}
-use Rattle.optional_elements.specs.declared.power_control.OptionalPower.{OptionalPower}
-use Rattle.optional_elements.specs.declared.slot_granting.OptionalGrant.{OptionalGrant}
-use Rattle.optional_elements.specs.declared.allocation.OptionalAllocation.{OptionalAllocation}
 use Rattle.optional_elements.specs.declared.elements.Elements.{Elements}
 
 module _ (e : Elements) where
@@ -63,13 +60,13 @@ none-encodes : EncodesOne (elements_refusal no_elements) flags_len (elements_bit
 unfolding elements_refusal grant_and_allocation_refusal elements_bits grant_and_allocation_bits row_bits bits_of_nat first
 none-encodes = piece_encodes refl (omega arith) (record { is = refl; size = refl; small = lit< tt })
 
-bare_is : (p : OptionalPower) (g : OptionalGrant) (a : OptionalAllocation)
+bare_is : (p : Option ℕ) (g : Option BasicSlotgrant) (a : Option ChanAllocElement)
     → let e : Elements = record { power_control_element = p; grant_and_allocation = record { slot_granting_element = g; chan_alloc_element = a } } in
     is_bare e ≡ true → e ≡ no_elements
-bare_is OptionalPower.Without OptionalGrant.Without OptionalAllocation.Without z = refl
-bare_is OptionalPower.Without OptionalGrant.Without (OptionalAllocation.Element e) z = absurd (let y : ◌≡◌ {A = ℕ} 0 1 = cc in omega arith)
-bare_is OptionalPower.Without (OptionalGrant.Element g) a z = absurd (let y : ◌≡◌ {A = ℕ} 0 1 = cc in omega arith)
-bare_is (OptionalPower.Level v) g a z = absurd (let y : ◌≡◌ {A = ℕ} 0 1 = cc in omega arith)
+bare_is None None None z = refl
+bare_is None None (Some e) z = absurd (let y : ◌≡◌ {A = ℕ} 0 1 = cc in omega arith)
+bare_is None (Some g) a z = absurd (let y : ◌≡◌ {A = ℕ} 0 1 = cc in omega arith)
+bare_is (Some v) g a z = absurd (let y : ◌≡◌ {A = ℕ} 0 1 = cc in omega arith)
 
 pub bare_encodes : (e : Elements) → is_bare e ≡ true
     → EncodesOne (elements_refusal e) (elements_len e) (elements_bits e) (record { number = 0; piece = record { value = 0; bits = flags_len } })

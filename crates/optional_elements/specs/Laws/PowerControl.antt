@@ -1,5 +1,5 @@
 -- Power control: how long it is, what was written is read back, and what was read is written again.
-use Rattle.std.specs.Prelude.{ℕ, ◌+◌, ◌^◌, ◌≤◌, ◌≡◌, refl, List, [], ◌∷◌, ◌++◌, Bool, length}
+use Rattle.std.specs.Prelude.{ℕ, ◌+◌, ◌^◌, ◌≤◌, ◌≡◌, refl, List, [], ◌∷◌, ◌++◌, Bool, length, None, Option, Some}
 use Rattle.std.proofs.Common.{add_assoc, lit≤, lt-ltb}
 use Rattle.codec.specs.Reader.{got, parse}
 use Rattle.codec.specs.Row.{cell, row_bits}
@@ -9,26 +9,25 @@ use Rattle.codec.specs.WrittenAgain.{Every}
 use Rattle.codec.proofs.Laws.Width.{fits-field}
 use Rattle.optional_elements.specs.PowerControl.{power_most, power_len, power_element, read_power, power_refusal, power_row}
 use Rattle.optional_elements.specs.Laws.Optional.{optional-zero, optional-one, optional_every}
-use Rattle.optional_elements.specs.declared.power_control.OptionalPower.{OptionalPower}
 
-pub power-length : (p : OptionalPower) → length (row_bits (power_row p)) ≡ power_len p
-power-length OptionalPower.Without = length_row (power_row OptionalPower.Without)
-power-length (OptionalPower.Level v) = length_row (power_row (OptionalPower.Level v))
+pub power-length : (p : Option ℕ) → length (row_bits (power_row p)) ≡ power_len p
+power-length None = length_row (power_row None)
+power-length (Some v) = length_row (power_row (Some v))
 
-pub power-bounds : (p : OptionalPower) → (1 ≤ power_len p) × (power_len p ≤ power_most)
-power-bounds OptionalPower.Without = (lit≤ tt, lit≤ tt)
-power-bounds (OptionalPower.Level v) = (lit≤ tt, lit≤ tt)
+pub power-bounds : (p : Option ℕ) → (1 ≤ power_len p) × (power_len p ≤ power_most)
+power-bounds None = (lit≤ tt, lit≤ tt)
+power-bounds (Some v) = (lit≤ tt, lit≤ tt)
 
-pub power-back : (p : OptionalPower) → power_refusal p ≡ 0 → (rest : List Bool) (o : ℕ) → parse read_power (row_bits (power_row p) ++ rest) o ≡ got p rest (o + power_len p)
+pub power-back : (p : Option ℕ) → power_refusal p ≡ 0 → (rest : List Bool) (o : ℕ) → parse read_power (row_bits (power_row p) ++ rest) o ≡ got p rest (o + power_len p)
 unfolding read_power
-power-back OptionalPower.Without e rest o = optional-zero power_element OptionalPower.Without rest o
-power-back (OptionalPower.Level v) e rest o =
-    rw (optional-one power_element OptionalPower.Without (cell 4 v ∷ []) rest o, parse_row_lem power_element (cell 4 v ∷ []) 0 rest (o + 1) (fits-field 4 v e, tt), add_assoc)
+power-back None e rest o = optional-zero power_element None rest o
+power-back (Some v) e rest o =
+    rw (optional-one power_element None (cell 4 v ∷ []) rest o, parse_row_lem power_element (cell 4 v ∷ []) 0 rest (o + 1) (fits-field 4 v e, tt), add_assoc)
 
 -- it is not refused, and its bits are xs
-abbrev pub PowerAgain : OptionalPower → List Bool → Type 0
+abbrev pub PowerAgain : Option ℕ → List Bool → Type 0
 PowerAgain p xs = (power_refusal p ≡ 0) × (row_bits (power_row p) ≡ xs)
 
 pub power_every : Every read_power PowerAgain
 unfolding read_power row_bits
-power_every = optional_every PowerAgain power_element OptionalPower.Without (λ v hv. (rw (lt-ltb v (2 ^ 4) hv), refl)) (refl, refl)
+power_every = optional_every PowerAgain power_element None (λ v hv. (rw (lt-ltb v (2 ^ 4) hv), refl)) (refl, refl)

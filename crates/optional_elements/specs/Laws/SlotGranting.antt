@@ -1,5 +1,5 @@
 -- Slot granting: how long it is, what was written is read back, and what was read is written again.
-use Rattle.std.specs.Prelude.{ℕ, ◌+◌, ◌≤◌, ◌≡◌, refl, List, ◌++◌, Bool, length}
+use Rattle.std.specs.Prelude.{ℕ, ◌+◌, ◌≤◌, ◌≡◌, refl, List, ◌++◌, Bool, length, None, Option, Some}
 use Rattle.std.proofs.Common.{append-nil, add_assoc, lit≤}
 use Rattle.codec.specs.Reader.{got, parse}
 use Rattle.codec.proofs.Laws.Reader.{parse_bind}
@@ -11,31 +11,30 @@ use Rattle.tetra_fields.specs.BasicSlotgrant.{read_slotgrant, slotgrant_row}
 use Rattle.tetra_fields.specs.Laws.BasicSlotgrant.{slotgrant_back, SlotgrantAgain, slotgrant_every}
 use Rattle.optional_elements.specs.SlotGranting.{granting_most, granting_len, granting_element, read_granting, granting_refusal, granting_row}
 use Rattle.optional_elements.specs.Laws.Optional.{optional-zero, optional-one, optional_every}
-use Rattle.optional_elements.specs.declared.slot_granting.OptionalGrant.{OptionalGrant}
 
-pub granting-length : (g : OptionalGrant) → length (row_bits (granting_row g)) ≡ granting_len g
+pub granting-length : (g : Option BasicSlotgrant) → length (row_bits (granting_row g)) ≡ granting_len g
 unfolding slotgrant_row
-granting-length OptionalGrant.Without = length_row (granting_row OptionalGrant.Without)
-granting-length (OptionalGrant.Element g) = length_row (granting_row (OptionalGrant.Element g))
+granting-length None = length_row (granting_row None)
+granting-length (Some g) = length_row (granting_row (Some g))
 
-pub granting-bounds : (g : OptionalGrant) → (1 ≤ granting_len g) × (granting_len g ≤ granting_most)
-granting-bounds OptionalGrant.Without = (lit≤ tt, lit≤ tt)
-granting-bounds (OptionalGrant.Element g) = (lit≤ tt, lit≤ tt)
+pub granting-bounds : (g : Option BasicSlotgrant) → (1 ≤ granting_len g) × (granting_len g ≤ granting_most)
+granting-bounds None = (lit≤ tt, lit≤ tt)
+granting-bounds (Some g) = (lit≤ tt, lit≤ tt)
 
-pub granting-back : (g : OptionalGrant) → granting_refusal g ≡ 0 → (rest : List Bool) (o : ℕ)
+pub granting-back : (g : Option BasicSlotgrant) → granting_refusal g ≡ 0 → (rest : List Bool) (o : ℕ)
     → parse read_granting (row_bits (granting_row g) ++ rest) o ≡ got g rest (o + granting_len g)
 unfolding read_granting
-granting-back OptionalGrant.Without e rest o = optional-zero granting_element OptionalGrant.Without rest o
-granting-back (OptionalGrant.Element g) e rest o =
-    rw (optional-one granting_element OptionalGrant.Without (slotgrant_row g) rest o, parse_bind, slotgrant_back g e rest (o + 1), add_assoc)
+granting-back None e rest o = optional-zero granting_element None rest o
+granting-back (Some g) e rest o =
+    rw (optional-one granting_element None (slotgrant_row g) rest o, parse_bind, slotgrant_back g e rest (o + 1), add_assoc)
 
 -- it is not refused, and its bits are xs
-abbrev pub GrantingAgain : OptionalGrant → List Bool → Type 0
+abbrev pub GrantingAgain : Option BasicSlotgrant → List Bool → Type 0
 GrantingAgain g xs = (granting_refusal g ≡ 0) × (row_bits (granting_row g) ≡ xs)
 
 pub granting_every : Every read_granting GrantingAgain
 unfolding read_granting row_bits
 granting_every =
-    optional_every GrantingAgain granting_element OptionalGrant.Without
+    optional_every GrantingAgain granting_element None
     (every_bind read_slotgrant _ SlotgrantAgain _ slotgrant_every (λ g xs h. (h.0, rw (h.1, append-nil))))
     (refl, refl)

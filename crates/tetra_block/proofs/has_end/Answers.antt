@@ -3,5 +3,5 @@ use Rattle.tetra_block.proofs.has_end.Goals as goal
 pub returns-in-At : goal.returns-in-At
 returns-in-At c = rw c.in-At.is
 
-pub returns-in-Unknown : goal.returns-in-Unknown
-returns-in-Unknown c = rw c.in-Unknown.is
+pub returns-in-None : goal.returns-in-None
+returns-in-None c = rw c.in-None.is

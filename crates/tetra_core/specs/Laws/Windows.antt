@@ -1,5 +1,5 @@
 -- Windows: what a good one gives, what is known where a call is not refused, and the forms of an answer.
-use Rattle.std.specs.Prelude.{ℕ, zero, suc, ◌+◌, ◌-◌, ◌*◌, ◌^◌, ◌≤◌, ◌<◌, ◌≡◌, refl, List, [], ◌∷◌, Bool, true, false, ◌&&◌, length, leb, ltb}
+use Rattle.std.specs.Prelude.{ℕ, zero, suc, ◌+◌, ◌-◌, ◌*◌, ◌^◌, ◌≤◌, ◌<◌, ◌≡◌, refl, List, [], ◌∷◌, Bool, true, false, ◌&&◌, length, leb, ltb, Err, None, Ok, Option, Some}
 use Rattle.std.proofs.Common.{sym, arith, leb-true, ltb-true, le-leb}
 use Rattle.std.proofs.lemmas.Bool.{lt-leb}
 use Rattle.bits.specs.Bits.{get_bits, bits_of_nat}
@@ -8,10 +8,6 @@ use Rattle.tetra_core.specs.Quantity.{octets_of}
 use Rattle.tetra_core.specs.BitBuffer.{room_refusal, good_window, at, moved, after, bytes_after, reads, read_refused, moves, changed, peek_at, peek_place, seek_place, read_refusal, read_bits, write_refusal, written, outcome, copy_refusal, remaining, into_slice_refusal, window_len, bitvec_refusal, are_bits, from_bitarr_refusal}
 use Rattle.bits.proofs.Laws.Writes.{length-put_bits, get_bits-put_bits}
 use Rattle.tetra_core.specs.declared.bitbuffer.Cursor.{Cursor}
-use Rattle.tetra_core.specs.declared.bitbuffer.BitsAnswer.TheVariants.{Value, Refused}
-use Rattle.tetra_core.specs.declared.bitbuffer.Outcome.TheVariants as Outcome'
-use Rattle.tetra_core.specs.declared.bitbuffer.Place.{Place}
-use Rattle.tetra_core.specs.declared.bitbuffer.Place.TheVariants as Place'
 use Rattle.tetra_core.specs.declared.bitbuffer.Copied.{Copied}
 
 -- ---- a good window
@@ -182,30 +178,30 @@ gatherable len c buf e =
 -- ---- the forms of an answer: refused by r, or done
 
 pub read-refused : (r j v : ℕ) (c d : Cursor) → r ≡ j → (r ≡ 0 → ⊥)
-    → record { cursor = c; answer = Refused (record { number = r; offset = 0 }) } ≡ reads j v c d
+    → record { cursor = c; answer = Err (record { number = r; offset = 0 }) } ≡ reads j v c d
 read-refused r zero v c d e h = absurd (h e)
 read-refused r (suc j) v c d e h = rw e
 
-pub read_done : (j v : ℕ) (c d : Cursor) → j ≡ 0 → record { cursor = d; answer = Value v } ≡ reads j v c d
+pub read_done : (j v : ℕ) (c d : Cursor) → j ≡ 0 → record { cursor = d; answer = Ok v } ≡ reads j v c d
 read_done zero v c d e = refl
 read_done (suc j) v c d e = absurd (omega arith)
 
-pub move_refused : (r j : ℕ) (c d : Cursor) → r ≡ j → (r ≡ 0 → ⊥) → record { cursor = c; answer = Outcome'.Refused r } ≡ moves j c d
+pub move_refused : (r j : ℕ) (c d : Cursor) → r ≡ j → (r ≡ 0 → ⊥) → record { cursor = c; answer = Err r } ≡ moves j c d
 move_refused r zero c d e h = absurd (h e)
 move_refused r (suc j) c d e h = rw e
 
-pub move_done : (j : ℕ) (c d : Cursor) → j ≡ 0 → record { cursor = d; answer = Outcome'.Done } ≡ moves j c d
+pub move_done : (j : ℕ) (c d : Cursor) → j ≡ 0 → record { cursor = d; answer = (Ok tt) } ≡ moves j c d
 move_done zero c d e = refl
 move_done (suc j) c d e = absurd (omega arith)
 
 pub copy_refused : (r j : ℕ) (d d' c c' : Cursor) → r ≡ j → (r ≡ 0 → ⊥)
-    → ◌≡◌ {A = Copied} (record { cursor = d; source = c; answer = Outcome'.Refused r })
+    → ◌≡◌ {A = Copied} (record { cursor = d; source = c; answer = Err r })
     (record { cursor = after j d d'; source = after j c c'; answer = outcome j })
 copy_refused r zero d d' c c' e h = absurd (h e)
 copy_refused r (suc j) d d' c c' e h = rw e
 
 pub copy_done : (j : ℕ) (d d' c c' : Cursor) → j ≡ 0
-    → ◌≡◌ {A = Copied} (record { cursor = d'; source = c'; answer = Outcome'.Done })
+    → ◌≡◌ {A = Copied} (record { cursor = d'; source = c'; answer = (Ok tt) })
     (record { cursor = after j d d'; source = after j c c'; answer = outcome j })
 copy_done zero d d' c c' e = refl
 copy_done (suc j) d d' c c' e = absurd (omega arith)
@@ -228,15 +224,15 @@ changed-bad len c d h = rw (both (good_window len c) (good_window len d) refl re
     both true false e f = rw (e, f)
     both false y e f = rw e
 
-pub seek_bad : (len : ℕ) (c : Cursor) (q : Place) → (Good len c → ⊥) → moves 13 c c ≡ seek_place len c q
-seek_bad len c (Place'.Bit p) h = sym (changed-bad len c (at c p) (λ g d. h g))
-seek_bad len c Place'.Before h = refl
+pub seek_bad : (len : ℕ) (c : Cursor) (q : Option ℕ) → (Good len c → ⊥) → moves 13 c c ≡ seek_place len c q
+seek_bad len c (Some p) h = sym (changed-bad len c (at c p) (λ g d. h g))
+seek_bad len c None h = refl
 
 -- a peek through a window that is not good, at any place
-pub peek_bad : (s : List ℕ) (c : Cursor) (n : ℕ) (q : Place) → good_window (length s) c ≡ false → read_refused c 13 ≡ peek_place s c q n
+pub peek_bad : (s : List ℕ) (c : Cursor) (n : ℕ) (q : Option ℕ) → good_window (length s) c ≡ false → read_refused c 13 ≡ peek_place s c q n
 unfolding peek_at read_refusal first
-peek_bad s c n (Place'.Bit p) e = rw e
-peek_bad s c n Place'.Before e = rw e
+peek_bad s c n (Some p) e = rw e
+peek_bad s c n None e = rw e
 
 -- a peek past the window's end
 pub peek_past : (s : List ℕ) (c : Cursor) (p n : ℕ) → Good (length s) c → c.end < p → read_refused c 1 ≡ peek_at s c p n
@@ -250,7 +246,7 @@ peek_past s c p n g h = past (leb n 64)
 -- ---- what was written is read back
 
 pub read_back : (s : List ℕ) (c : Cursor) (v n : ℕ) → write_refusal (length s) c v n ≡ 0
-    → read_bits (written s c v n) c n ≡ record { cursor = moved c n; answer = Value v }
+    → read_bits (written s c v n) c n ≡ record { cursor = moved c n; answer = Ok v }
 unfolding read_bits written
 read_back s c v n e =
     let r = writable (length s) c v n e in

@@ -1,5 +1,5 @@
 -- A slot grant that nothing refuses fits its 8 bits; what was written is read back, and what was read is written as the same bits.
-use Rattle.std.specs.Prelude.{ℕ, ◌+◌, ◌-◌, ◌<◌, ◌≡◌, refl, List, ◌++◌, Bool, length, take, leb, eqb}
+use Rattle.std.specs.Prelude.{ℕ, ◌+◌, ◌-◌, ◌<◌, ◌≡◌, refl, List, ◌++◌, Bool, length, take, leb, eqb, Err, Ok}
 use Rattle.std.proofs.Common.{mod-eq_of_lt, arith, lit<, leb-true, eqb-true, ne_eqb}
 use Rattle.tetra_core.specs.BitBuffer.{moved}
 use Rattle.tetra_core.specs.Refusal.{passed}
@@ -20,7 +20,6 @@ use Rattle.tetra_fields.specs.declared.enums.basic_slotgrant_cap_alloc.BasicSlot
 use Rattle.tetra_fields.specs.declared.enums.basic_slotgrant_granting_delay.BasicSlotgrantGrantingDelay.{BasicSlotgrantGrantingDelay}
 use Rattle.tetra_fields.specs.declared.enums.basic_slotgrant_granting_delay.BasicSlotgrantGrantingDelay.TheVariants.{CapAllocAtNextOpportunity, DelayNOpportunities, AllocStartsAtOpportunityInFr18, WaitForAnotherSlotgrantMessage}
 use Rattle.tetra_fields.specs.declared.fields.basic_slotgrant.BasicSlotgrant.{BasicSlotgrant}
-use Rattle.tetra_fields.specs.declared.fields.basic_slotgrant.SlotgrantAnswer.{SlotgrantAnswer}
 
 -- the number of a case has 4 bits and gives the case
 pub cap_alloc_back : (a : BasicSlotgrantCapAlloc) → (cap_alloc_number a < 16) × (cap_alloc_of (cap_alloc_number a) ≡ a)
@@ -71,10 +70,10 @@ module _ (g : BasicSlotgrant) (e : slotgrant_refusal g ≡ 0) where
 
 -- in bytes: what to_bitbuf wrote, from_bitbuf reads at the same cursor
 pub slotgrant_written-back : (s : List ℕ) (c : Cursor) (g : BasicSlotgrant) → refusal_at (length s) c (slotgrant_refusal g) slotgrant_size ≡ 0
-    → slotgrant_at (slotgrant_written s c g) c ≡ record { cursor = moved c slotgrant_size; answer = SlotgrantAnswer.Read g }
+    → slotgrant_at (slotgrant_written s c g) c ≡ record { cursor = moved c slotgrant_size; answer = Ok g }
 unfolding slotgrant_at
 slotgrant_written-back s c g e =
-    written_back read_slotgrant (λ c' a'. record { cursor = c'; answer = a' }) SlotgrantAnswer.Read SlotgrantAnswer.Refused s c (slotgrant_refusal g) _ (slotgrant_length g) (λ rest. slotgrant_back g (free _ _ _ _ e).value rest 0) e
+    written_back read_slotgrant (λ c' a'. record { cursor = c'; answer = a' }) Ok Err s c (slotgrant_refusal g) _ (slotgrant_length g) (λ rest. slotgrant_back g (free _ _ _ _ e).value rest 0) e
 
 -- ---- what is read, written again
 

@@ -25,13 +25,6 @@ pub enum BasicSlotgrantCapAlloc {
     SecondSubslotGranted,
 }
 
-// The case of a number, or none.
-#[derive(Clone, Copy)]
-pub enum CapAllocCase {
-    Case(BasicSlotgrantCapAlloc),
-    Nothing,
-}
-
 // What a case grants.
 #[derive(Clone, Copy)]
 pub enum GrantedSlots {
@@ -65,13 +58,13 @@ pub fn from_raw(v: u64) -> BasicSlotgrantCapAlloc
 }
 
 // The case of a number; above 15 there is none.
-pub fn try_from(v: u64) -> CapAllocCase
+pub fn try_from(v: u64) -> Option<BasicSlotgrantCapAlloc>
     ensures { result ≡ cap_alloc_case v }
 {
     if 15 < v {
-        return CapAllocCase::Nothing;
+        return None;
     }
-    CapAllocCase::Case(from_raw(v))
+    Some(from_raw(v))
 }
 
 pub fn into_raw(a: BasicSlotgrantCapAlloc) -> u64
@@ -99,17 +92,17 @@ pub fn into_raw(a: BasicSlotgrantCapAlloc) -> u64
 
 // The least case that grants req slots, 0 for the first subslot and 99 for the second. It has the number of the reservation requirement
 // that asks for as many.
-pub fn from_req_slotcount(req: usize) -> CapAllocCase
+pub fn from_req_slotcount(req: usize) -> Option<BasicSlotgrantCapAlloc>
     ensures { result ≡ cap_alloc_for req }
 {
     if req == 99 {
-        return CapAllocCase::Case(BasicSlotgrantCapAlloc::SecondSubslotGranted);
+        return Some(BasicSlotgrantCapAlloc::SecondSubslotGranted);
     }
     if 68 < req {
-        return CapAllocCase::Nothing;
+        return None;
     }
     let asked = reservation_requirement::from_req_slotcount(req);
-    CapAllocCase::Case(from_raw(reservation_requirement::into_raw(asked)))
+    Some(from_raw(reservation_requirement::into_raw(asked)))
 }
 
 pub fn to_req_slotcount(a: BasicSlotgrantCapAlloc) -> GrantedSlots

@@ -11,13 +11,6 @@ pub enum BasicSlotgrantGrantingDelay {
     WaitForAnotherSlotgrantMessage,
 }
 
-// The case of a number, or none.
-#[derive(Clone, Copy)]
-pub enum GrantingDelayCase {
-    Case(BasicSlotgrantGrantingDelay),
-    Nothing,
-}
-
 // The case of a field's bits, the low 4 of v.
 pub fn from_raw(v: u64) -> BasicSlotgrantGrantingDelay
     ensures { result ≡ delay_of v }
@@ -32,13 +25,13 @@ pub fn from_raw(v: u64) -> BasicSlotgrantGrantingDelay
 }
 
 // The case of a number; above 15 there is none.
-pub fn try_from(v: u64) -> GrantingDelayCase
+pub fn try_from(v: u64) -> Option<BasicSlotgrantGrantingDelay>
     ensures { result ≡ delay_case v }
 {
     if 15 < v {
-        return GrantingDelayCase::Nothing;
+        return None;
     }
-    GrantingDelayCase::Case(from_raw(v))
+    Some(from_raw(v))
 }
 
 pub fn into_raw(d: BasicSlotgrantGrantingDelay) -> u64

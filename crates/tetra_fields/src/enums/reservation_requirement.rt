@@ -22,13 +22,6 @@ pub enum ReservationRequirement {
     ReqOver68,
 }
 
-// The case of a number, or none.
-#[derive(Clone, Copy)]
-pub enum ReservationCase {
-    Case(ReservationRequirement),
-    Nothing,
-}
-
 // What a case asks for.
 #[derive(Clone, Copy)]
 pub enum ReqSlotcount {
@@ -62,13 +55,13 @@ pub fn from_raw(v: u64) -> ReservationRequirement
 }
 
 // The case of a number; above 15 there is none.
-pub fn try_from(v: u64) -> ReservationCase
+pub fn try_from(v: u64) -> Option<ReservationRequirement>
     ensures { result ≡ reservation_case v }
 {
     if 15 < v {
-        return ReservationCase::Nothing;
+        return None;
     }
-    ReservationCase::Case(from_raw(v))
+    Some(from_raw(v))
 }
 
 pub fn into_raw(a: ReservationRequirement) -> u64

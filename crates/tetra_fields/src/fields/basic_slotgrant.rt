@@ -29,18 +29,11 @@ pub struct BasicSlotgrant {
     pub granting_delay: BasicSlotgrantGrantingDelay,
 }
 
-// A slot grant, or why there is none.
-#[derive(Clone, Copy)]
-pub enum SlotgrantAnswer {
-    Read(BasicSlotgrant),
-    Refused(Refusal),
-}
-
 // What a read answers, and the cursor after it.
 #[derive(Clone, Copy)]
 pub struct SlotgrantRead {
     pub cursor: Cursor,
-    pub answer: SlotgrantAnswer,
+    pub answer: Result<BasicSlotgrant, Refusal>,
 }
 
 // A slot grant as a part of a header: why it is not read, or number 0.
@@ -93,7 +86,7 @@ pub fn from_bitbuf(s: &[u8], c: Cursor) -> SlotgrantRead
     if !bitbuffer::good_window(s.len(), c) {
         return SlotgrantRead {
             cursor: c,
-            answer: SlotgrantAnswer::Refused(Refusal {
+            answer: Err(Refusal {
                 number: refusal::BAD_WINDOW,
                 offset: 0,
             }),
@@ -105,12 +98,12 @@ pub fn from_bitbuf(s: &[u8], c: Cursor) -> SlotgrantRead
     if refusal.number != 0 {
         return SlotgrantRead {
             cursor: c,
-            answer: SlotgrantAnswer::Refused(refusal),
+            answer: Err(refusal),
         };
     }
     SlotgrantRead {
         cursor: codec::moved_by(c, SIZE),
-        answer: SlotgrantAnswer::Read(grant),
+        answer: Ok(grant),
     }
 }
 

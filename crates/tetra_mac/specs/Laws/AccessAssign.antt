@@ -1,5 +1,5 @@
 -- The ACCESS-ASSIGN's words give it back, and its refusals have a bit that fits a status.
-use Rattle.std.specs.Prelude.{ℕ, ◌≤◌, ◌≡◌, refl, List, true, length, ltb}
+use Rattle.std.specs.Prelude.{ℕ, ◌≤◌, ◌≡◌, refl, List, true, length, ltb, Err, Ok, Result}
 use Rattle.std.proofs.Math.Option.{some}
 use Rattle.std.proofs.Common.{arith}
 use borrow.Author.Tests.{le-leb, lt-ltb}
@@ -15,8 +15,6 @@ use Rattle.access_assign.specs.declared.enums.access_assign_ul_usage.AccessAssig
 use Rattle.access_assign.specs.declared.enums.access_assign_ul_usage.AccessAssignUlUsage.TheVariants as Ul'
 use Rattle.access_assign.specs.declared.access_assign.AccessAssign.{AccessAssign}
 use Rattle.access_assign.specs.declared.access_assign.AccessAssign.TheVariants.{DownlinkCommonControlUplinkCommonOnly, DownlinkDefinedUplinkCommonAndAssigned, DownlinkDefinedUplinkAssignedOnly, DownlinkDefinedUplinkDefined}
-use Rattle.access_assign.specs.declared.access_assign.AccessAssignAnswer.{AccessAssignAnswer}
-use Rattle.access_assign.specs.declared.access_assign.AccessAssignAnswer.TheVariants.{Read, Refused}
 use Rattle.access_assign.specs.declared.access_assign.AccessAssignRead.{AccessAssignRead}
 use Rattle.tetra_mac.specs.Reply.{value_if}
 use Rattle.tetra_mac.specs.AccessAssign.{dl_kind, dl_traffic, ul_kind, ul_traffic, field_known, field_value, dl_value, ul_value, one_known, two_known, assign_value, access_assign_words, access_assign_known, access_assign_of_words}
@@ -83,14 +81,14 @@ pub access_assign_long : (ws : List ℕ) → access_assign_known ws ≡ true →
 unfolding access_assign_known
 access_assign_long ws e = long-enough 5 ws _ e
 
-abbrev access_assign_bit : AccessAssignAnswer → ℕ
-access_assign_bit (Read h) = 0
-access_assign_bit (Refused r) = r.offset
+abbrev access_assign_bit : Result AccessAssign Refusal → ℕ
+access_assign_bit (Ok h) = 0
+access_assign_bit (Err r) = r.offset
 
-pub access_assign_bit_lem : (s : List ℕ) (c : Cursor) {d : AccessAssignRead} {r : Refusal} → d ≡ access_assign_at s c → d.answer ≡ Refused r → r.offset ≤ 65536
+pub access_assign_bit_lem : (s : List ℕ) (c : Cursor) {d : AccessAssignRead} {r : Refusal} → d ≡ access_assign_at s c → d.answer ≡ Err r → r.offset ≤ 65536
 unfolding access_assign_at read_access_assign access_assign_of
 access_assign_bit_lem s c e a =
     let b : access_assign_bit (access_assign_at s c).answer ≤ 65536 =
-    bit-within read_access_assign (λ c' a'. record { cursor = c'; answer = a' }) AccessAssignAnswer.Read AccessAssignAnswer.Refused (λ (d : AccessAssignRead). access_assign_bit d.answer) (λ c h. refl) (λ c r. refl)
+    bit-within read_access_assign (λ c' a'. record { cursor = c'; answer = a' }) Ok Err (λ (d : AccessAssignRead). access_assign_bit d.answer) (λ c h. refl) (λ c r. refl)
     (λ _ _ _. (tt, (tt, (tt, (tt, omega arith))))) s c in
     rw (← e, a) at b

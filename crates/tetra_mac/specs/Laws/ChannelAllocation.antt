@@ -1,5 +1,5 @@
 -- The channel allocation's words give it back, and its refusals have a bit that fits a status.
-use Rattle.std.specs.Prelude.{ℕ, min, ◌≤◌, ◌≡◌, refl, List, true, length}
+use Rattle.std.specs.Prelude.{ℕ, min, ◌≤◌, ◌≡◌, refl, List, true, length, Err, None, Ok, Option, Result, Some}
 use Rattle.std.proofs.Math.Option.{some}
 use Rattle.std.proofs.Common.{arith, le-leb}
 use Rattle.tetra_core.specs.declared.bitbuffer.Cursor.{Cursor}
@@ -7,11 +7,7 @@ use Rattle.tetra_core.specs.declared.refusal.Refusal.{Refusal}
 use Rattle.codec.proofs.Laws.Cases.{flag-back}
 use Rattle.channel_allocation.specs.ChannelAllocation.{alloc_type_number, ul_dl_number, timeslots_number, frame18_number, read_mon_patterns, read_channel_allocation, channel_allocation_at}
 use Rattle.channel_allocation.specs.Laws.ChannelAllocation.{alloc_type-back, ul_dl_back, timeslots_lt, timeslots_back}
-use Rattle.channel_allocation.specs.declared.channel_allocation.Frame18Pattern.{Frame18Pattern}
-use Rattle.channel_allocation.specs.declared.channel_allocation.Frame18Pattern.TheVariants.{Without, Pattern}
 use Rattle.channel_allocation.specs.declared.channel_allocation.ChanAllocElement.{ChanAllocElement}
-use Rattle.channel_allocation.specs.declared.channel_allocation.ChannelAllocationAnswer.{ChannelAllocationAnswer}
-use Rattle.channel_allocation.specs.declared.channel_allocation.ChannelAllocationAnswer.TheVariants.{Read, Refused}
 use Rattle.channel_allocation.specs.declared.channel_allocation.ChannelAllocationRead.{ChannelAllocationRead}
 use Rattle.tetra_mac.specs.ChannelAllocation.{frame18_present, frame18_value, channel_allocation_words, channel_allocation_known, channel_allocation_value, channel_allocation_of_words}
 use Rattle.tetra_mac.specs.Laws.Placed.{Placed, bit-within}
@@ -23,10 +19,10 @@ pub record ChannelAllocationTyped (e : ChanAllocElement) : Type 0 where
   pub pattern : e.mon_pattern ≤ 255
   pub frame18 : frame18_number e.frame18_mon_pattern ≤ 255
 
-frame18-kept : (p : Frame18Pattern) → frame18_number p ≤ 255 → frame18_value (frame18_present p) (min (frame18_number p) 255) ≡ p
+frame18-kept : (p : Option ℕ) → frame18_number p ≤ 255 → frame18_value (frame18_present p) (min (frame18_number p) 255) ≡ p
 unfolding frame18_value
-frame18-kept Without h = refl
-frame18-kept (Pattern v) h = rw (kept v 255 h)
+frame18-kept None h = refl
+frame18-kept (Some v) h = rw (kept v 255 h)
 
 pub channel_allocation-kept : (e : ChanAllocElement) → ChannelAllocationTyped e
     → (channel_allocation_known (channel_allocation_words e) ≡ true) × (channel_allocation_value (channel_allocation_words e) ≡ e)
@@ -58,19 +54,19 @@ pub channel_allocation-long : (ws : List ℕ) → channel_allocation_known ws �
 unfolding channel_allocation_known
 channel_allocation-long ws e = long-enough 9 ws _ e
 
-abbrev channel_allocation_bit : ChannelAllocationAnswer → ℕ
-channel_allocation_bit (Read e) = 0
-channel_allocation_bit (Refused r) = r.offset
+abbrev channel_allocation_bit : Result ChanAllocElement Refusal → ℕ
+channel_allocation_bit (Ok e) = 0
+channel_allocation_bit (Err r) = r.offset
 
 pub channel_allocation-placed : (o : ℕ) → Placed o read_channel_allocation
 unfolding read_channel_allocation read_mon_patterns
 channel_allocation-placed o = λ _ _ _ _ _ _ _. (omega arith, λ _. ((λ _. (omega arith, tt)), (omega arith, tt)))
 
 pub channel_allocation-bit : (s : List ℕ) (c : Cursor) {d : ChannelAllocationRead} {r : Refusal}
-    → d ≡ channel_allocation_at s c → d.answer ≡ Refused r → r.offset ≤ 65536
+    → d ≡ channel_allocation_at s c → d.answer ≡ Err r → r.offset ≤ 65536
 unfolding channel_allocation_at
 channel_allocation-bit s c e a =
     let b : channel_allocation_bit (channel_allocation_at s c).answer ≤ 65536 =
-    bit-within read_channel_allocation (λ c' a'. record { cursor = c'; answer = a' }) ChannelAllocationAnswer.Read ChannelAllocationAnswer.Refused (λ (d : ChannelAllocationRead). channel_allocation_bit d.answer) (λ c e. refl) (λ c r. refl)
+    bit-within read_channel_allocation (λ c' a'. record { cursor = c'; answer = a' }) Ok Err (λ (d : ChannelAllocationRead). channel_allocation_bit d.answer) (λ c e. refl) (λ c r. refl)
     (channel_allocation-placed 0) s c in
     rw (← e, a) at b

@@ -1,5 +1,5 @@
 -- The MAC-ACCESS's words give it back, and its refusals have a bit that fits a status.
-use Rattle.std.specs.Prelude.{ℕ, ◌≤◌, ◌≡◌, refl, List, true, length}
+use Rattle.std.specs.Prelude.{ℕ, ◌≤◌, ◌≡◌, refl, List, true, length, Err, Ok, Result}
 use Rattle.std.proofs.Math.Option.{some}
 use Rattle.std.proofs.Common.{arith, lt-ltb}
 use Rattle.tetra_core.specs.declared.bitbuffer.Cursor.{Cursor}
@@ -13,8 +13,6 @@ use Rattle.mac_access.specs.MacAccess.{read_request, read_chosen, read_option, r
 use Rattle.mac_access.specs.declared.mac_access.MacAccessOption.{MacAccessOption}
 use Rattle.mac_access.specs.declared.mac_access.MacAccessOption.TheVariants.{Without, LengthInd, CapacityRequest}
 use Rattle.mac_access.specs.declared.mac_access.MacAccess.{MacAccess}
-use Rattle.mac_access.specs.declared.mac_access.MacAccessAnswer.{MacAccessAnswer}
-use Rattle.mac_access.specs.declared.mac_access.MacAccessAnswer.TheVariants.{Read, Refused}
 use Rattle.mac_access.specs.declared.mac_access.MacAccessRead.{MacAccessRead}
 use Rattle.tetra_mac.specs.Reply.{value_if}
 use Rattle.tetra_mac.specs.MacAccess.{option_kind, option_first, option_reservation, option_known, option_value, mac_access_words, mac_access_known, mac_access_value, mac_access_of_words}
@@ -48,14 +46,14 @@ pub mac_access_long : (ws : List ℕ) → mac_access_known ws ≡ true → 8 ≤
 unfolding mac_access_known
 mac_access_long ws e = long-enough 8 ws _ e
 
-abbrev mac_access_bit : MacAccessAnswer → ℕ
-mac_access_bit (Read h) = 0
-mac_access_bit (Refused r) = r.offset
+abbrev mac_access_bit : Result MacAccess Refusal → ℕ
+mac_access_bit (Ok h) = 0
+mac_access_bit (Err r) = r.offset
 
-pub mac_access_bit_lem : (s : List ℕ) (c : Cursor) {d : MacAccessRead} {r : Refusal} → d ≡ mac_access_at s c → d.answer ≡ Refused r → r.offset ≤ 65536
+pub mac_access_bit_lem : (s : List ℕ) (c : Cursor) {d : MacAccessRead} {r : Refusal} → d ≡ mac_access_at s c → d.answer ≡ Err r → r.offset ≤ 65536
 unfolding mac_access_at read_mac_access read_option read_chosen read_request read_uplink_head read_uplink_body read_uplink_address
 mac_access_bit_lem s c e a =
     let b : mac_access_bit (mac_access_at s c).answer ≤ 65536 =
-    bit-within read_mac_access (λ c' a'. record { cursor = c'; answer = a' }) MacAccessAnswer.Read MacAccessAnswer.Refused (λ (d : MacAccessRead). mac_access_bit d.answer) (λ c h. refl) (λ c r. refl)
+    bit-within read_mac_access (λ c' a'. record { cursor = c'; answer = a' }) Ok Err (λ (d : MacAccessRead). mac_access_bit d.answer) (λ c h. refl) (λ c r. refl)
     (λ _. (omega arith, λ _ _ _ _ _. (tt, λ _. ((λ _. tt), (λ _ _. tt))))) s c in
     rw (← e, a) at b

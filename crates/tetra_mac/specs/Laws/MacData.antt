@@ -1,5 +1,5 @@
 -- The MAC-DATA's words give it back, and its refusals have a bit that fits a status.
-use Rattle.std.specs.Prelude.{ℕ, ◌≤◌, ◌≡◌, refl, List, true, length}
+use Rattle.std.specs.Prelude.{ℕ, ◌≤◌, ◌≡◌, refl, List, true, length, Err, Ok, Result}
 use Rattle.std.proofs.Math.Option.{some}
 use Rattle.std.proofs.Common.{arith}
 use Rattle.tetra_core.specs.Laws.Windows.{and_both}
@@ -13,8 +13,6 @@ use Rattle.mac_data.specs.MacData.{read_request, read_option, read_mac_data, mac
 use Rattle.mac_data.specs.declared.mac_data.MacDataOption.{MacDataOption}
 use Rattle.mac_data.specs.declared.mac_data.MacDataOption.TheVariants.{LengthInd, CapacityRequest}
 use Rattle.mac_data.specs.declared.mac_data.MacData.{MacData}
-use Rattle.mac_data.specs.declared.mac_data.MacDataAnswer.{MacDataAnswer}
-use Rattle.mac_data.specs.declared.mac_data.MacDataAnswer.TheVariants.{Read, Refused}
 use Rattle.mac_data.specs.declared.mac_data.MacDataRead.{MacDataRead}
 use Rattle.tetra_mac.specs.Reply.{value_if, word}
 use Rattle.tetra_mac.specs.MacAccess.{option_kind, mac_access_known, mac_access_value}
@@ -40,14 +38,14 @@ pub mac_data_long : (ws : List ℕ) → mac_data_known ws ≡ true → 8 ≤ len
 unfolding mac_data_known
 mac_data_long ws e = mac_access_long ws (and_both (mac_access_known ws) (flag (word ws 5)) e).0
 
-abbrev mac_data_bit : MacDataAnswer → ℕ
-mac_data_bit (Read h) = 0
-mac_data_bit (Refused r) = r.offset
+abbrev mac_data_bit : Result MacData Refusal → ℕ
+mac_data_bit (Ok h) = 0
+mac_data_bit (Err r) = r.offset
 
-pub mac_data_bit_lem : (s : List ℕ) (c : Cursor) {d : MacDataRead} {r : Refusal} → d ≡ mac_data_at s c → d.answer ≡ Refused r → r.offset ≤ 65536
+pub mac_data_bit_lem : (s : List ℕ) (c : Cursor) {d : MacDataRead} {r : Refusal} → d ≡ mac_data_at s c → d.answer ≡ Err r → r.offset ≤ 65536
 unfolding mac_data_at read_mac_data read_option read_request read_uplink_head read_uplink_body read_uplink_address
 mac_data_bit_lem s c e a =
     let b : mac_data_bit (mac_data_at s c).answer ≤ 65536 =
-    bit-within read_mac_data (λ c' a'. record { cursor = c'; answer = a' }) MacDataAnswer.Read MacDataAnswer.Refused (λ (d : MacDataRead). mac_data_bit d.answer) (λ c h. refl) (λ c r. refl)
+    bit-within read_mac_data (λ c' a'. record { cursor = c'; answer = a' }) Ok Err (λ (d : MacDataRead). mac_data_bit d.answer) (λ c h. refl) (λ c r. refl)
     (λ _. (omega arith, λ _ _ _ _ _. ((λ _. tt), (λ _ _ _. tt)))) s c in
     rw (← e, a) at b

@@ -1,5 +1,5 @@
 -- The slot grant's words give it back, and its refusals have a bit that fits a status.
-use Rattle.std.specs.Prelude.{ℕ, min, ◌≤◌, ◌≡◌, refl, List, true, length}
+use Rattle.std.specs.Prelude.{ℕ, min, ◌≤◌, ◌≡◌, refl, List, true, length, Err, Ok, Result}
 use Rattle.std.proofs.Math.Option.{some}
 use Rattle.std.proofs.Common.{arith, le-leb}
 use Rattle.tetra_core.specs.declared.bitbuffer.Cursor.{Cursor}
@@ -9,8 +9,6 @@ use Rattle.tetra_fields.specs.Laws.BasicSlotgrant.{cap_alloc_back}
 use Rattle.tetra_fields.specs.declared.enums.basic_slotgrant_granting_delay.BasicSlotgrantGrantingDelay.{BasicSlotgrantGrantingDelay}
 use Rattle.tetra_fields.specs.declared.enums.basic_slotgrant_granting_delay.BasicSlotgrantGrantingDelay.TheVariants.{CapAllocAtNextOpportunity, DelayNOpportunities, AllocStartsAtOpportunityInFr18, WaitForAnotherSlotgrantMessage}
 use Rattle.tetra_fields.specs.declared.fields.basic_slotgrant.BasicSlotgrant.{BasicSlotgrant}
-use Rattle.tetra_fields.specs.declared.fields.basic_slotgrant.SlotgrantAnswer.{SlotgrantAnswer}
-use Rattle.tetra_fields.specs.declared.fields.basic_slotgrant.SlotgrantAnswer.TheVariants.{Read, Refused}
 use Rattle.tetra_fields.specs.declared.fields.basic_slotgrant.SlotgrantRead.{SlotgrantRead}
 use Rattle.tetra_mac.specs.Slotgrant.{delay_kind, delay_count, delay_value, slotgrant_words, slotgrant_known, slotgrant_value, slotgrant_of_words}
 use Rattle.tetra_mac.specs.Laws.Placed.{bit-within}
@@ -39,13 +37,13 @@ pub slotgrant_long : (ws : List ℕ) → slotgrant_known ws ≡ true → 3 ≤ l
 unfolding slotgrant_known
 slotgrant_long ws e = long-enough 3 ws _ e
 
-abbrev slotgrant_bit : SlotgrantAnswer → ℕ
-slotgrant_bit (Read g) = 0
-slotgrant_bit (Refused r) = r.offset
+abbrev slotgrant_bit : Result BasicSlotgrant Refusal → ℕ
+slotgrant_bit (Ok g) = 0
+slotgrant_bit (Err r) = r.offset
 
-pub slotgrant_bit_lem : (s : List ℕ) (c : Cursor) {d : SlotgrantRead} {r : Refusal} → d ≡ slotgrant_at s c → d.answer ≡ Refused r → r.offset ≤ 65536
+pub slotgrant_bit_lem : (s : List ℕ) (c : Cursor) {d : SlotgrantRead} {r : Refusal} → d ≡ slotgrant_at s c → d.answer ≡ Err r → r.offset ≤ 65536
 unfolding slotgrant_at read_slotgrant
 slotgrant_bit_lem s c e a =
     let b : slotgrant_bit (slotgrant_at s c).answer ≤ 65536 =
-    bit-within read_slotgrant (λ c' a'. record { cursor = c'; answer = a' }) SlotgrantAnswer.Read SlotgrantAnswer.Refused (λ (d : SlotgrantRead). slotgrant_bit d.answer) (λ c g. refl) (λ c r. refl) (λ v w. tt) s c in
+    bit-within read_slotgrant (λ c' a'. record { cursor = c'; answer = a' }) Ok Err (λ (d : SlotgrantRead). slotgrant_bit d.answer) (λ c g. refl) (λ c r. refl) (λ v w. tt) s c in
     rw (← e, a) at b

@@ -1,7 +1,7 @@
 use Rattle.tetra_resource.proofs.power_words.Goals as goal
 
-pub returns-in-Without : goal.returns-in-Without
-returns-in-Without c = rw c.in-Without.is
+pub returns-in-None : goal.returns-in-None
+returns-in-None c = rw c.in-None.is
 
-pub returns-in-Level : goal.returns-in-Level
-returns-in-Level c = rw c.in-Level.is
+pub returns-in-Some : goal.returns-in-Some
+returns-in-Some c = rw c.in-Some.is

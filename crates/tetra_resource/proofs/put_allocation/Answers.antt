@@ -3,15 +3,15 @@ use native.Mathlib.Omega.{arith}
 use lib.ListN.{length-set}
 use Rattle.tetra_resource.proofs.put_allocation.Goals as goal
 
-pub returns-in-Element : goal.returns-in-Element
-returns-in-Element c =
-    rw c.in-Element.is (c.put_words-in-Element.ensures ∙ rw c.channel_allocation_words-words.ensures)
+pub returns-in-Some : goal.returns-in-Some
+returns-in-Some c =
+    rw c.in-Some.is (c.put_words-in-Some.ensures ∙ rw c.channel_allocation_words-words.ensures)
 
-pub put_words-requires-in-Element : goal.put_words-requires-in-Element
-put_words-requires-in-Element c = simp length-set (omega arith)
+pub put_words-requires-in-Some : goal.put_words-requires-in-Some
+put_words-requires-in-Some c = simp length-set (omega arith)
 
-pub returns-in-Without : goal.returns-in-Without
-returns-in-Without c = rw c.in-Without.is c.put_words.ensures
+pub returns-in-None : goal.returns-in-None
+returns-in-None c = rw c.in-None.is c.put_words.ensures
 
-pub shape_of-out-in-Element : goal.shape_of-out-in-Element
-shape_of-out-in-Element c = c.put_words-in-Element.auto.out ∙ simp length-set
+pub shape_of-out-in-Some : goal.shape_of-out-in-Some
+shape_of-out-in-Some c = c.put_words-in-Some.auto.out ∙ simp length-set

@@ -9,13 +9,13 @@ use Rattle.tetra_resource.proofs.tetra_mac_resource_len_and_fill.Goals as goal
 pub mac_resource_value-h-requires : goal.mac_resource_value-h-requires
 mac_resource_value-h-requires c = mac_resource_long _ (sym c.mac_resource_known.ensures ∙ c.if-not-mac_resource_known.false)
 
-pub returns-in-Counted : goal.returns-in-Counted
-returns-in-Counted c =
-    count-replied _ _ _ _ c.mac_resource_known.ensures (ap not c.if-not-mac_resource_known.false) c.if-out-lt3.false c.mac_resource_value-h.ensures (rw (← c.update_len_and_fill_ind.ensures, c.in-Counted.is, c.bit.ensures.0))
+pub returns-in-Ok : goal.returns-in-Ok
+returns-in-Ok c =
+    count-replied _ _ _ _ c.mac_resource_known.ensures (ap not c.if-not-mac_resource_known.false) c.if-out-lt3.false c.mac_resource_value-h.ensures (rw (← c.update_len_and_fill_ind.ensures, c.in-Ok.is, c.bit.ensures.0))
 
-pub returns-in-Refused : goal.returns-in-Refused
-returns-in-Refused c =
-    count-replied _ _ _ _ c.mac_resource_known.ensures (ap not c.if-not-mac_resource_known.false) c.if-out-lt3.false c.mac_resource_value-h.ensures (rw (← c.update_len_and_fill_ind.ensures, c.in-Refused.is))
+pub returns-in-Err : goal.returns-in-Err
+returns-in-Err c =
+    count-replied _ _ _ _ c.mac_resource_known.ensures (ap not c.if-not-mac_resource_known.false) c.if-out-lt3.false c.mac_resource_value-h.ensures (rw (← c.update_len_and_fill_ind.ensures, c.in-Err.is))
 
 pub returns-then-out-lt3 : goal.returns-then-out-lt3
 returns-then-out-lt3 c = count_no_room _ _ _ _ c.if-out-lt3.true

@@ -15,16 +15,16 @@ pub returns-in-2 : goal.returns-in-2
 unfolding access_assign_of
 returns-in-2 c = λ rest n. rw (c.assign_read-in-2.ensures, c.in-2.is, c.from_usage_marker-in-2.ensures, c.from_raw-in-2.ensures)
 
-pub returns-in-Usage : goal.returns-in-Usage
+pub returns-in-Some : goal.returns-in-Some
 unfolding access_assign_of
-returns-in-Usage c = λ rest n.
+returns-in-Some c = λ rest n.
     let r = c.in_default.in_default-own.rest in
-    let u = ul_found _ c.from_usage_marker-in_default.ensures c.in-Usage.is in
-    rw (c.assign_read-in-Usage.ensures, ne_eqb _ _ r.0.0.1, ne_eqb _ _ r.0.1, ne_eqb _ _ r.1, u.0, u.1, c.from_usage_marker-in-Usage.ensures)
+    let u = ul_found _ c.from_usage_marker-in_default.ensures c.in-Some.is in
+    rw (c.assign_read-in-Some.ensures, ne_eqb _ _ r.0.0.1, ne_eqb _ _ r.0.1, ne_eqb _ _ r.1, u.0, u.1, c.from_usage_marker-in-Some.ensures)
 
-pub returns-in-Nothing : goal.returns-in-Nothing
+pub returns-in-None : goal.returns-in-None
 unfolding access_assign_of
-returns-in-Nothing c = λ rest n.
+returns-in-None c = λ rest n.
     let r = c.in_default.in_default-own.rest in
-    let u = ul_missing _ c.from_usage_marker-in_default.ensures c.in-Nothing.is in
+    let u = ul_missing _ c.from_usage_marker-in_default.ensures c.in-None.is in
     rw (c.refused.ensures, ne_eqb _ _ r.0.0.1, ne_eqb _ _ r.0.1, ne_eqb _ _ r.1, u)

@@ -8,6 +8,6 @@ pub returns-in-Number : goal.returns-in-Number
 unfolding second_text
 returns-in-Number c = rw c.in-Number.is c.space_number.ensures
 
-pub returns-in-Nothing : goal.returns-in-Nothing
+pub returns-in-None : goal.returns-in-None
 unfolding second_text
-returns-in-Nothing c = rw c.in-Nothing.is (wider field_most (omega arith) c.word.ensures)
+returns-in-None c = rw c.in-None.is (wider field_most (omega arith) c.word.ensures)

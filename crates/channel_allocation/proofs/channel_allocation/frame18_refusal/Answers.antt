@@ -9,12 +9,12 @@ returns-then-mon_pattern-ne0 c = rw (ne_eqb _ _ c.if-mon_pattern-ne0.true)
 
 pub returns-then-v-gt3 : goal.returns-then-v-gt3
 unfolding frame18_refusal
-returns-then-v-gt3 c = rw (eq-eqb _ _ c.if-mon_pattern-ne0.false, c.in-Pattern.is, le-ltb c.in-Pattern.v 4 (omega arith))
+returns-then-v-gt3 c = rw (eq-eqb _ _ c.if-mon_pattern-ne0.false, c.in-Some.is, le-ltb c.in-Some.v 4 (omega arith))
 
-pub returns-in-Without : goal.returns-in-Without
+pub returns-in-None : goal.returns-in-None
 unfolding frame18_refusal
-returns-in-Without c = rw (eq-eqb _ _ c.if-mon_pattern-ne0.false, c.in-Without.is)
+returns-in-None c = rw (eq-eqb _ _ c.if-mon_pattern-ne0.false, c.in-None.is)
 
 pub returns-else-v-gt3 : goal.returns-else-v-gt3
 unfolding frame18_refusal
-returns-else-v-gt3 c = rw (eq-eqb _ _ c.if-mon_pattern-ne0.false, c.in-Pattern.is, lt-ltb c.in-Pattern.v 4 (omega arith))
+returns-else-v-gt3 c = rw (eq-eqb _ _ c.if-mon_pattern-ne0.false, c.in-Some.is, lt-ltb c.in-Some.v 4 (omega arith))

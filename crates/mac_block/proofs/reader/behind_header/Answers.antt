@@ -32,6 +32,6 @@ pub returns-in-At : goal.returns-in-At
 returns-in-At c =
     filled _ _ _ _ _ _ (not-false _ c.if-not-header.false) (sym c.in-At.is ∙ last (goal.at.returns-in-At c).After-last_one_of)
 
-pub returns-in-Nowhere : goal.returns-in-Nowhere
-returns-in-Nowhere c =
-    no_fill _ _ _ _ _ _ (not-false _ c.if-not-header.false) (sym c.in-Nowhere.is ∙ last (goal.at.returns-in-Nowhere c).After-last_one_of)
+pub returns-in-None : goal.returns-in-None
+returns-in-None c =
+    no_fill _ _ _ _ _ _ (not-false _ c.if-not-header.false) (sym c.in-None.is ∙ last (goal.at.returns-in-None c).After-last_one_of)

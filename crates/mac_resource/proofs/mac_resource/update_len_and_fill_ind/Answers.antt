@@ -15,12 +15,12 @@ returns-then-sdu_len c =
     let d = c.args in
     rw (sym c.length_refusal-number.ensures ∙ c.if-number-ne0.false, octets_over (header_len d.h + d.sdu_len) (omega arith))
 
-pub returns-in-Counted : goal.returns-in-Counted
+pub returns-in-Ok : goal.returns-in-Ok
 unfolding update_len_and_fill_ind
-returns-in-Counted c =
-    rw (sym c.length_refusal-number.ensures ∙ c.if-number-ne0.false, ← c.header_len.ensures.0, sym c.count_octets.ensures ∙ c.in-Counted.is)
+returns-in-Ok c =
+    rw (sym c.length_refusal-number.ensures ∙ c.if-number-ne0.false, ← c.header_len.ensures.0, sym c.count_octets.ensures ∙ c.in-Ok.is)
 
-pub returns-in-Refused : goal.returns-in-Refused
+pub returns-in-Err : goal.returns-in-Err
 unfolding update_len_and_fill_ind
-returns-in-Refused c =
-    rw (sym c.length_refusal-number.ensures ∙ c.if-number-ne0.false, ← c.header_len.ensures.0, sym c.count_octets.ensures ∙ c.in-Refused.is)
+returns-in-Err c =
+    rw (sym c.length_refusal-number.ensures ∙ c.if-number-ne0.false, ← c.header_len.ensures.0, sym c.count_octets.ensures ∙ c.in-Err.is)

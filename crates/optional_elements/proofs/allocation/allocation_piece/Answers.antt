@@ -7,19 +7,19 @@ use Rattle.codec.proofs.Laws.Piece.{row_holds, join_holds}
 use Rattle.optional_elements.proofs.allocation.allocation_piece.Goals as goal
 
 pub channel_allocation_word-requires : goal.channel_allocation_word-requires
-channel_allocation_word-requires c = rw c.in-Element.is at c.requires
+channel_allocation_word-requires c = rw c.in-Some.is at c.requires
 
 pub joined-requires : goal.joined-requires
 joined-requires c =
     let l = c.allocation_len.ensures in
     (lit< tt, rw l.0 c.channel_allocation_word.ensures.1, omega arith)
 
-pub returns-in-Without : goal.returns-in-Without
-returns-in-Without c = rw (c.in-Without.is, append-nil) (row_holds (row_is (cell 1 0 ∷ []) (lit< tt, tt)))
+pub returns-in-None : goal.returns-in-None
+returns-in-None c = rw (c.in-None.is, append-nil) (row_holds (row_is (cell 1 0 ∷ []) (lit< tt, tt)))
 
-pub returns-in-Element : goal.returns-in-Element
-returns-in-Element c =
+pub returns-in-Some : goal.returns-in-Some
+returns-in-Some c =
     let l = c.allocation_len.ensures.0 in
     let x = c.channel_allocation_word.ensures in
-    rw c.in-Element.is
+    rw c.in-Some.is
     (join_holds (row_holds (row_is (cell 1 1 ∷ []) (lit< tt, tt))) (record { is = rw l x.0; size = l; small = rw l x.1 }) c.joined.ensures)

@@ -1,4 +1,4 @@
 use Rattle.optional_elements.proofs.allocation.allocation_refusal.Goals as goal
 
-pub returns-in-Element : goal.returns-in-Element
-returns-in-Element c = rw c.in-Element.is c.channel_allocation_refusal.ensures
+pub returns-in-Some : goal.returns-in-Some
+returns-in-Some c = rw c.in-Some.is c.channel_allocation_refusal.ensures

@@ -1,3 +1,4 @@
+use Rattle.std.specs.Prelude.{None}
 use mathlib.Core.Path.{refl}
 use native.Mathlib.Omega.{arith}
 use Rattle.codec.proofs.Laws.Header.{read, next-part}
@@ -5,7 +6,6 @@ use Rattle.codec.proofs.Laws.Reader.{parse_bind}
 use Rattle.codec.proofs.Laws.Ahead.{held_on, ready_on, onward, onward_then}
 use Rattle.optional_elements.specs.Allocation.{allocation_most, allocation_element, read_allocation}
 use Rattle.optional_elements.specs.Laws.Optional.{optional-short, optional_clear, optional-set}
-use Rattle.optional_elements.specs.declared.allocation.OptionalAllocation.{OptionalAllocation}
 use Rattle.channel_allocation.specs.ChannelAllocation.{channel_allocation_most}
 use Rattle.optional_elements.proofs.allocation.read_allocation.Goals as goal
 
@@ -13,7 +13,7 @@ pub returns-then-a-lt1 : goal.returns-then-a-lt1
 unfolding read_allocation
 returns-then-a-lt1 c = (
   record {
-    of = λ h e. record { means = rw (c.field_past_end.ensures, optional-short allocation_element OptionalAllocation.Without e c.if-a-lt1.true) };
+    of = λ h e. record { means = rw (c.field_past_end.ensures, optional-short allocation_element None e c.if-a-lt1.true) };
   },
   λ z. absurd (let w = rw c.field_past_end.ensures at z in omega arith),
 )
@@ -27,7 +27,7 @@ returns-then-next_bits-eq0 c =
           means = rw (
             c.no_refusal.ensures,
             c.advance-b.ensures,
-            optional_clear allocation_element OptionalAllocation.Without (c.next_bits.ensures.word h e l) c.if-next_bits-eq0.true,
+            optional_clear allocation_element None (c.next_bits.ensures.word h e l) c.if-next_bits-eq0.true,
           );
         };
       },
@@ -46,7 +46,7 @@ returns c =
       record {
         of = λ h e. record {
           means = rw (
-            optional-set allocation_element OptionalAllocation.Without (c.next_bits.ensures.word h e l) c.if-next_bits-eq0.false,
+            optional-set allocation_element None (c.next_bits.ensures.word h e l) c.if-next_bits-eq0.false,
             parse_bind,
             read (x.0.of h (held_on 1 e l)) refl,
             next-part,

@@ -6,9 +6,9 @@ use Rattle.codec.proofs.Laws.Piece.{row_holds}
 use Rattle.codec.proofs.Laws.Width.{fits-field}
 use Rattle.optional_elements.proofs.power_control.power_piece.Goals as goal
 
-pub returns-in-Without : goal.returns-in-Without
-returns-in-Without c = rw c.in-Without.is (row_holds (row_is (cell 1 0 ∷ []) (lit< tt, tt)))
+pub returns-in-None : goal.returns-in-None
+returns-in-None c = rw c.in-None.is (row_holds (row_is (cell 1 0 ∷ []) (lit< tt, tt)))
 
-pub returns-in-Level : goal.returns-in-Level
-returns-in-Level c =
-    rw c.in-Level.is (row_holds (row_is (cell 1 1 ∷ cell 4 c.in-Level.v ∷ []) (lit< tt, (fits-field 4 c.in-Level.v (rw c.in-Level.is at c.requires), tt))))
+pub returns-in-Some : goal.returns-in-Some
+returns-in-Some c =
+    rw c.in-Some.is (row_holds (row_is (cell 1 1 ∷ cell 4 c.in-Some.v ∷ []) (lit< tt, (fits-field 4 c.in-Some.v (rw c.in-Some.is at c.requires), tt))))

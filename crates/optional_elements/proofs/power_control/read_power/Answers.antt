@@ -1,16 +1,16 @@
+use Rattle.std.specs.Prelude.{None}
 use native.Mathlib.Omega.{arith}
 use Rattle.codec.proofs.Laws.Header.{alone}
 use Rattle.codec.proofs.Laws.Ahead.{held_on, ready_on, ahead_field-short, onward, onward_then}
 use Rattle.optional_elements.specs.PowerControl.{power_element, read_power}
 use Rattle.optional_elements.specs.Laws.Optional.{optional-short, optional_clear, optional-set}
-use Rattle.optional_elements.specs.declared.power_control.OptionalPower.{OptionalPower}
 use Rattle.optional_elements.proofs.power_control.read_power.Goals as goal
 
 pub returns-then-left-lt1 : goal.returns-then-left-lt1
 unfolding read_power
 returns-then-left-lt1 c = (
   record {
-    of = λ h e. record { means = rw (c.past_end.ensures, optional-short power_element OptionalPower.Without e c.if-left-lt1.true) };
+    of = λ h e. record { means = rw (c.past_end.ensures, optional-short power_element None e c.if-left-lt1.true) };
   },
   λ z. absurd (let w = rw c.past_end.ensures at z in omega arith),
 )
@@ -21,7 +21,7 @@ returns-then-next_bits-eq0 c =
     let l = c.if-left-lt1.false in (
       record {
         of = λ h e. record {
-          means = rw (c.no_refusal.ensures, c.advance-b.ensures, optional_clear power_element OptionalPower.Without (c.next_bits.ensures.word h e l) c.if-next_bits-eq0.true);
+          means = rw (c.no_refusal.ensures, c.advance-b.ensures, optional_clear power_element None (c.next_bits.ensures.word h e l) c.if-next_bits-eq0.true);
         };
       },
       λ z. rw c.advance-b.ensures (onward 1 5 (omega arith) l),
@@ -36,7 +36,7 @@ returns-then-left-lt-POWER_BITS c =
           means = rw (
             c.past_end-then-left-lt-POWER_BITS.ensures,
             c.advance-b.ensures,
-            optional-set power_element OptionalPower.Without (c.next_bits.ensures.word h e l) c.if-next_bits-eq0.false,
+            optional-set power_element None (c.next_bits.ensures.word h e l) c.if-next_bits-eq0.false,
             ahead_field-short 4 (held_on 1 e l) (omega arith),
           );
         };
@@ -62,7 +62,7 @@ returns c =
             c.no_refusal-2.ensures,
             c.advance.ensures,
             c.advance-b.ensures,
-            optional-set power_element OptionalPower.Without (c.next_bits.ensures.word h e l) c.if-next_bits-eq0.false,
+            optional-set power_element None (c.next_bits.ensures.word h e l) c.if-next_bits-eq0.false,
             alone ((rw c.advance-b.ensures at c.next_bits-level.ensures).word h (held_on 1 e l) (omega arith)),
           );
         };

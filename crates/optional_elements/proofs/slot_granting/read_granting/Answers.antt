@@ -1,3 +1,4 @@
+use Rattle.std.specs.Prelude.{None}
 use Prim.Native.Nat.{◌≤◌}
 use mathlib.Core.Path.{refl}
 use native.Mathlib.Omega.{arith}
@@ -7,7 +8,6 @@ use Rattle.codec.proofs.Laws.Reader.{parse_bind}
 use Rattle.codec.proofs.Laws.Ahead.{held_on, ready_on, onward, onward_then, read-there}
 use Rattle.optional_elements.specs.SlotGranting.{granting_element, read_granting}
 use Rattle.optional_elements.specs.Laws.Optional.{optional-short, optional_clear, optional-set}
-use Rattle.optional_elements.specs.declared.slot_granting.OptionalGrant.{OptionalGrant}
 use Rattle.optional_elements.proofs.slot_granting.read_granting.Goals.{Else-refusal-ne0}
 use Rattle.optional_elements.proofs.slot_granting.read_granting.Goals as goal
 
@@ -16,7 +16,7 @@ unfolding read_granting
 returns-then-a-lt1 c = (
   record {
     of = λ h e. record {
-      means = rw (c.refused.ensures, c.field_past_end.ensures, optional-short granting_element OptionalGrant.Without e c.if-a-lt1.true);
+      means = rw (c.refused.ensures, c.field_past_end.ensures, optional-short granting_element None e c.if-a-lt1.true);
     };
   },
   λ z. absurd (let w = rw (c.refused.ensures, c.field_past_end.ensures) at z in omega arith),
@@ -28,7 +28,7 @@ returns-then-next_bits-eq0 c =
     let l = c.if-a-lt1.false in (
       record {
         of = λ h e. record {
-          means = rw (c.no_refusal.ensures, c.advance-b.ensures, optional_clear granting_element OptionalGrant.Without (c.next_bits.ensures.word h e l) c.if-next_bits-eq0.true);
+          means = rw (c.no_refusal.ensures, c.advance-b.ensures, optional_clear granting_element None (c.next_bits.ensures.word h e l) c.if-next_bits-eq0.true);
         };
       },
       λ z. rw c.advance-b.ensures (onward 1 9 (omega arith) l),
@@ -46,7 +46,7 @@ returns-then-refusal-ne0 c =
         of = λ h e. record {
           means = rw (
             c.refused-then-refusal-ne0.ensures,
-            optional-set granting_element OptionalGrant.Without (c.next_bits.ensures.word h e l) c.if-next_bits-eq0.false,
+            optional-set granting_element None (c.next_bits.ensures.word h e l) c.if-next_bits-eq0.false,
             parse_bind,
             read ((rw c.advance-b.ensures at c.read_slotgrant-part.ensures).of h (held_on 1 e l)) refl,
             ne_eqb _ _ c.if-refusal-ne0.true,
@@ -71,7 +71,7 @@ returns c =
         of = λ h e. record {
           means = rw (
             c.advance.ensures,
-            optional-set granting_element OptionalGrant.Without (c.next_bits.ensures.word h e l) c.if-next_bits-eq0.false,
+            optional-set granting_element None (c.next_bits.ensures.word h e l) c.if-next_bits-eq0.false,
             parse_bind,
             read ((rw c.advance-b.ensures at c.read_slotgrant-part.ensures).of h (held_on 1 e l)) refl,
             eq-eqb _ _ c.if-refusal-ne0.false,

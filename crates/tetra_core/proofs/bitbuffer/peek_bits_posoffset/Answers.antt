@@ -22,14 +22,14 @@ returns-then-not-good_window c =
 pub place_of-requires : goal.place_of-requires
 place_of-requires c = let g = good_facts _ _ (good c) in omega arith
 
-pub returns-in-Bit : goal.returns-in-Bit
+pub returns-in-Some : goal.returns-in-Some
 unfolding peek_bits_posoffset
-returns-in-Bit c =
+returns-in-Some c =
     let e = rw (to_z-of_z c.ranges.offset) at c.place_of.ensures in
-    rw (sym e ∙ c.in-Bit.is) c.peek_at.ensures
+    rw (sym e ∙ c.in-Some.is) c.peek_at.ensures
 
-pub returns-in-Before : goal.returns-in-Before
+pub returns-in-None : goal.returns-in-None
 unfolding peek_bits_posoffset first
-returns-in-Before c =
+returns-in-None c =
     let e = rw (to_z-of_z c.ranges.offset) at c.place_of.ensures in
-    rw (sym e ∙ c.in-Before.is, good (goal.at.returns-in-Before c).Else-not-good_window) c.refused-in-Before.ensures
+    rw (sym e ∙ c.in-None.is, good (goal.at.returns-in-None c).Else-not-good_window) c.refused-in-None.ensures

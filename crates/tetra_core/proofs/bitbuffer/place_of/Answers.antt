@@ -1,3 +1,4 @@
+use Rattle.std.specs.Prelude.{None, Some}
 use Prim.Native.Nat.{ℕ, suc, ◌+◌, ◌-◌, ◌^◌, ◌≤◌, ◌<◌}
 use mathlib.Core.Path.{◌≡◌, refl}
 use mathlib.Core.Bool.{true, false}
@@ -8,19 +9,18 @@ use lib.IntN.{ℤ, pos, negsuc, nat_abs, ◌+ℤ◌}
 use lib.Signed.{mag, lt_z, non_neg}
 use mir.Facts.{to_z-of_z}
 use Rattle.tetra_core.specs.BitBuffer.{place_of}
-use Rattle.tetra_core.specs.declared.bitbuffer.Place.TheVariants.{Bit, Before}
 use Rattle.tetra_core.proofs.Signed.{Back, back-of}
 use Rattle.tetra_core.proofs.bitbuffer.place_of.Goals.{Else-offset-lt0, Then-offset-lt0}
 use Rattle.tetra_core.proofs.bitbuffer.place_of.Goals as goal
 
 -- ---- by the sign of the offset
 
-before-0 : (p : ℕ) (z : ℤ) → lt_z z (pos 0) ≡ true → p ≤ mag z → Before ≡ place_of (pos p +ℤ z)
+before-0 : (p : ℕ) (z : ℤ) → lt_z z (pos 0) ≡ true → p ≤ mag z → None ≡ place_of (pos p +ℤ z)
 unfolding place_of
 before-0 p (pos k) n h = absurd (let l = ltb-true k 0 n in omega arith)
 before-0 p (negsuc k) n h = rw (lt-ltb p (suc k) (omega arith))
 
-back_by : (p : ℕ) (z : ℤ) → lt_z z (pos 0) ≡ true → mag z < p → Bit (p - 1 - mag z) ≡ place_of (pos p +ℤ z)
+back_by : (p : ℕ) (z : ℤ) → lt_z z (pos 0) ≡ true → mag z < p → Some (p - 1 - mag z) ≡ place_of (pos p +ℤ z)
 unfolding place_of
 back_by p (pos k) n h = absurd (let l = ltb-true k 0 n in omega arith)
 back_by p (negsuc k) n h =
@@ -30,7 +30,7 @@ back_by p (negsuc k) n h =
 record Ahead (p : ℕ) (z : ℤ) : Type 0 where
   whole : T (non_neg z)
   small : nat_abs z < 2 ^ 63
-  place : Bit (p + nat_abs z) ≡ place_of (pos p +ℤ z)
+  place : Some (p + nat_abs z) ≡ place_of (pos p +ℤ z)
 
 ahead : (p : ℕ) (z : ℤ) → lt_z z (pos 0) ≡ false → mag z < 2 ^ 63 → Ahead p z
 unfolding place_of

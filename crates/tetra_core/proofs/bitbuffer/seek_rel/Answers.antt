@@ -13,14 +13,14 @@ returns-then-pos-gt65536 c =
     let a = c.args in
     rw c.unchanged.ensures (seek_bad (length a.s.now) a.c (place_of (signed a.c.pos +ℤ a.offset)) (λ g. omega arith))
 
-pub returns-in-Bit : goal.returns-in-Bit
+pub returns-in-Some : goal.returns-in-Some
 unfolding seek_rel
-returns-in-Bit c =
+returns-in-Some c =
     let e = rw (to_z-of_z c.ranges.offset) at c.place_of.ensures in
-    rw (sym e ∙ c.in-Bit.is) c.set_raw_pos.ensures
+    rw (sym e ∙ c.in-Some.is) c.set_raw_pos.ensures
 
-pub returns-in-Before : goal.returns-in-Before
+pub returns-in-None : goal.returns-in-None
 unfolding seek_rel
-returns-in-Before c =
+returns-in-None c =
     let e = rw (to_z-of_z c.ranges.offset) at c.place_of.ensures in
-    rw (sym e ∙ c.in-Before.is) c.unchanged-in-Before.ensures
+    rw (sym e ∙ c.in-None.is) c.unchanged-in-None.ensures

@@ -6,15 +6,15 @@ use Rattle.tetra_mac.proofs.data.tetra_mac_data_read.Goals as goal
 
 pub deny-requires : goal.deny-requires
 deny-requires c =
-    (search rules, mac_data_bit_lem _ _ c.from_bitbuf-done.ensures c.in-Refused.is)
+    (search rules, mac_data_bit_lem _ _ c.from_bitbuf-done.ensures c.in-Err.is)
 
-pub returns-in-Read : goal.returns-in-Read
-returns-in-Read c =
-    rw (← c.from_bitbuf-done.ensures) (read-replied _ _ _ _ _ c.if-out-lt-READ_WORDS.false c.in-Read.is (c.give.ensures ∙ rw (c.mac_access_words-words.ensures, c.as_access.ensures)))
+pub returns-in-Ok : goal.returns-in-Ok
+returns-in-Ok c =
+    rw (← c.from_bitbuf-done.ensures) (read-replied _ _ _ _ _ c.if-out-lt-READ_WORDS.false c.in-Ok.is (c.give.ensures ∙ rw (c.mac_access_words-words.ensures, c.as_access.ensures)))
 
-pub returns-in-Refused : goal.returns-in-Refused
-returns-in-Refused c =
-    rw (← c.from_bitbuf-done.ensures) (read-replied _ _ _ _ _ c.if-out-lt-READ_WORDS.false c.in-Refused.is c.deny.ensures)
+pub returns-in-Err : goal.returns-in-Err
+returns-in-Err c =
+    rw (← c.from_bitbuf-done.ensures) (read-replied _ _ _ _ _ c.if-out-lt-READ_WORDS.false c.in-Err.is c.deny.ensures)
 
 pub returns-then-out-lt-READ_WORDS : goal.returns-then-out-lt-READ_WORDS
 returns-then-out-lt-READ_WORDS c = read_no_room _ _ _ _ _ c.if-out-lt-READ_WORDS.true
