@@ -3,6 +3,7 @@
 use Rattle.std.specs.Prelude.{ℕ, ◌+◌, ◌≡◌, List, [], ◌∷◌, Bool, false, drop, eqb, Err, Ok}
 use Rattle.tetra_core.specs.Refusal.{first}
 use Rattle.tetra_core.specs.declared.bitbuffer.Cursor.{Cursor}
+use Rattle.tetra_core.specs.declared.bitbuffer.Read.{Read}
 use Rattle.tetra_core.specs.declared.bitbuffer.Moved.{Moved}
 use Rattle.codec.specs.Reader.{Out, got, Reader, done, refuse, field, here, choose, parse, ◌>>=◌}
 use Rattle.codec.specs.Header.{at_cursor, part_out}
@@ -15,7 +16,6 @@ use Rattle.access_assign.specs.declared.structs.base_frame_length.BaseFrameLengt
 use Rattle.access_assign.specs.declared.structs.access_field.AccessField.{AccessField}
 use Rattle.access_assign.specs.declared.access_assign.AccessAssign.{AccessAssign}
 use Rattle.access_assign.specs.declared.access_assign.AccessAssign.TheVariants.{DownlinkCommonControlUplinkCommonOnly, DownlinkDefinedUplinkCommonAndAssigned, DownlinkDefinedUplinkAssignedOnly, DownlinkDefinedUplinkDefined}
-use Rattle.access_assign.specs.declared.access_assign.AccessAssignRead.{AccessAssignRead}
 use Rattle.access_assign.specs.declared.access_assign.AccessAssignPart.{AccessAssignPart}
 
 -- ---- what is read
@@ -49,8 +49,8 @@ access_assign_out o h p = part_out p.refusal (got p.assign (drop (o + assign_siz
 abbrev pub Says : ℕ → ℕ → ℕ → ℕ → AccessAssignPart → Type 0
 Says header one two second r = (rest : List Bool) (n : ℕ) → part_out r.refusal (got r.assign rest n) ≡ parse (access_assign_of header one two second) rest n
 
-unfoldable pub access_assign_at : List ℕ → Cursor → AccessAssignRead
-access_assign_at = at_cursor read_access_assign (λ c a. record { cursor = c; answer = a }) Ok Err
+unfoldable pub access_assign_at : List ℕ → Cursor → Read AccessAssign
+access_assign_at = at_cursor read_access_assign
 
 -- ---- what is written
 

@@ -15,7 +15,7 @@ use crate::structs::base_frame_length::BaseFrameLength;
 use codec::encoded::Encoded;
 use codec::piece::Piece;
 use codec::{Ahead, encoded};
-use tetra_core::bitbuffer::{Cursor, Moved};
+use tetra_core::bitbuffer::{Cursor, Moved, Read};
 use tetra_core::refusal::Refusal;
 use tetra_core::{bitbuffer, refusal};
 
@@ -53,13 +53,6 @@ pub enum AccessAssign {
         downlink_usage_marker: AccessAssignDlUsage,
         uplink_usage_marker: AccessAssignUlUsage,
     },
-}
-
-// What a read answers, and the cursor after it.
-#[derive(Clone, Copy)]
-pub struct AccessAssignRead {
-    pub cursor: Cursor,
-    pub answer: Result<AccessAssign, Refusal>,
 }
 
 // An ACCESS-ASSIGN as a part of a header: why it is not read, or number 0.
@@ -179,11 +172,11 @@ fn read_access_assign(a: Ahead) -> AccessAssignPart
 }
 
 // Reads an ACCESS-ASSIGN at the cursor.
-pub fn from_bitbuf(s: &[u8], c: Cursor) -> AccessAssignRead
+pub fn from_bitbuf(s: &[u8], c: Cursor) -> Read<AccessAssign>
     ensures { result ≡ access_assign_at s.now c }
 {
     if !bitbuffer::good_window(s.len(), c) {
-        return AccessAssignRead {
+        return Read {
             cursor: c,
             answer: Err(Refusal {
                 number: refusal::BAD_WINDOW,
@@ -195,12 +188,12 @@ pub fn from_bitbuf(s: &[u8], c: Cursor) -> AccessAssignRead
     let refusal = part.refusal;
     let assign = part.assign;
     if refusal.number != 0 {
-        return AccessAssignRead {
+        return Read {
             cursor: c,
             answer: Err(refusal),
         };
     }
-    AccessAssignRead {
+    Read {
         cursor: codec::moved_by(c, SIZE),
         answer: Ok(assign),
     }

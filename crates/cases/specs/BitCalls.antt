@@ -4,7 +4,7 @@ use Rattle.std.specs.Prelude.{◌≡◌, true, false, List, [], ◌∷◌, ◌++
 use Rattle.tetra_core.specs.BitBuffer.{at, read_bits, peek_at, read_bits_into_slice, sliced_bits, to_bitarr, bitarr, into_bitvec, bitvec, write_bits, written, write_run, run_written, copy_bits, copied, copy_bits_from_bitarr, from_bitarr, window_count, changed, seek_rel, opened}
 use Rattle.tetra_core.specs.Quantity.{octet_count}
 use Rattle.tetra_core.specs.declared.bitbuffer.Cursor.{Cursor}
-use Rattle.tetra_core.specs.declared.bitbuffer.BitsRead.{BitsRead}
+use Rattle.tetra_core.specs.declared.bitbuffer.Read.{Read}
 use Rattle.tetra_core.specs.declared.bitbuffer.Moved.{Moved}
 use Rattle.tetra_core.specs.declared.bitbuffer.Copied.{Copied}
 use Rattle.tetra_core.specs.declared.quantity.OctetCount.{OctetCount}
@@ -12,8 +12,8 @@ use Rattle.tetra_core.specs.declared.quantity.OctetCount.{OctetCount}
 -- what a call answers
 pub data BitsCall : Type 0 where
   -- a read or a peek, and one into a slice, with the bytes that are left in it
-  Read : BitsRead → BitsCall
-  ReadInto : BitsRead → (buf : List ℕ) → BitsCall
+  Read : Read ℕ → BitsCall
+  ReadInto : Read ℕ → (buf : List ℕ) → BitsCall
   -- a write or a copy, and the bytes that are left
   Wrote : Moved → (bytes : List ℕ) → BitsCall
   Copies : Copied → (bytes : List ℕ) → BitsCall
@@ -37,10 +37,10 @@ abbrev pub cursor : (start pos end : ℕ) → Cursor
 cursor a p e = record { start = a; pos = p; end = e }
 
 -- a number with the cursor after it, and a refused read
-abbrev pub value : ℕ → Cursor → BitsRead
+abbrev pub value : ℕ → Cursor → Read ℕ
 value v c = record { cursor = c; answer = Ok v }
 
-abbrev pub refuses : ℕ → Cursor → BitsRead
+abbrev pub refuses : ℕ → Cursor → Read ℕ
 refuses j c = record { cursor = c; answer = Err (record { number = j; offset = 0 }) }
 
 -- a write or move that is done, and a refused one

@@ -6,8 +6,8 @@ use Rattle.tetra_core.specs.declared.address.SsiType.{SsiType}
 use Rattle.tetra_core.specs.declared.address.DownlinkAddress.{DownlinkAddress}
 use Rattle.tetra_core.specs.declared.address.UplinkAddress.{UplinkAddress}
 use Rattle.tetra_core.specs.BitBuffer.{read_bits, opened}
-use Rattle.tetra_core.specs.declared.bitbuffer.BitsRead.{BitsRead}
 use Rattle.tetra_core.specs.declared.bitbuffer.Cursor.{Cursor}
+use Rattle.tetra_core.specs.declared.bitbuffer.Read.{Read}
 use Rattle.tetra_core.specs.declared.bitbuffer.Moved.{Moved}
 use Rattle.tetra_fields.specs.declared.enums.basic_slotgrant_cap_alloc.BasicSlotgrantCapAlloc.{BasicSlotgrantCapAlloc}
 use Rattle.tetra_fields.specs.declared.enums.basic_slotgrant_granting_delay.BasicSlotgrantGrantingDelay.{BasicSlotgrantGrantingDelay}
@@ -16,23 +16,18 @@ use Rattle.tetra_fields.specs.BasicSlotgrant.{slotgrant_write, slotgrant_written
 use Rattle.channel_allocation.specs.declared.enums.alloc_type.ChanAllocType.{ChanAllocType}
 use Rattle.channel_allocation.specs.declared.enums.ul_dl_assignment.UlDlAssignment.{UlDlAssignment}
 use Rattle.channel_allocation.specs.declared.channel_allocation.ChanAllocElement.{ChanAllocElement}
-use Rattle.channel_allocation.specs.declared.channel_allocation.ChannelAllocationRead.{ChannelAllocationRead}
 use Rattle.channel_allocation.specs.ChannelAllocation.{compute_len, channel_allocation_at, channel_allocation_write, channel_allocation_written}
 use Rattle.access_assign.specs.declared.enums.access_assign_dl_usage.AccessAssignDlUsage.{AccessAssignDlUsage}
 use Rattle.access_assign.specs.declared.enums.access_assign_ul_usage.AccessAssignUlUsage.{AccessAssignUlUsage}
 use Rattle.access_assign.specs.declared.access_assign.AccessAssign.{AccessAssign}
-use Rattle.access_assign.specs.declared.access_assign.AccessAssignRead.{AccessAssignRead}
 use Rattle.access_assign.specs.AccessAssign.{default_access_assign, access_assign_at, access_assign_write, access_assign_written}
 use Rattle.mac_access.specs.declared.mac_access.MacAccess.{MacAccess}
 use Rattle.mac_access.specs.declared.mac_access.MacAccessOption.{MacAccessOption}
-use Rattle.mac_access.specs.declared.mac_access.MacAccessRead.{MacAccessRead}
 use Rattle.mac_access.specs.MacAccess.{mac_access_at, mac_access_write, mac_access_written}
 use Rattle.mac_data.specs.declared.mac_data.MacData.{MacData}
 use Rattle.mac_data.specs.declared.mac_data.MacDataOption.{MacDataOption}
-use Rattle.mac_data.specs.declared.mac_data.MacDataRead.{MacDataRead}
 use Rattle.mac_data.specs.MacData.{mac_data_at, mac_data_write, mac_data_written}
 use Rattle.mac_resource.specs.declared.mac_resource.MacResource.{MacResource}
-use Rattle.mac_resource.specs.declared.mac_resource.MacResourceRead.{MacResourceRead}
 use Rattle.mac_resource.specs.declared.mac_resource.LenAndFill.{LenAndFill}
 use Rattle.mac_resource.specs.MacResource.{null_pdu, mac_resource_at, mac_resource_write, mac_resource_written, compute_header_len, update_len_and_fill_ind}
 use Rattle.block_rules.specs.declared.to_add.LengthIndication.{LengthIndication}
@@ -51,14 +46,14 @@ pub data Answer : Type 0 where
   -- a header or an element that is written, and the bytes that are left
   Wrote : Moved → (bytes : List ℕ) → Answer
   -- a bare field, and a window over a slice
-  ReadField : BitsRead → Answer
+  ReadField : Read ℕ → Answer
   OpenedWindow : Result Cursor Refusal → Answer
   -- a header or an element that is read
-  ReadAllocation : ChannelAllocationRead → Answer
-  ReadAssign : AccessAssignRead → Answer
-  ReadAccess : MacAccessRead → Answer
-  ReadData : MacDataRead → Answer
-  ReadResource : MacResourceRead → Answer
+  ReadAllocation : Read ChanAllocElement → Answer
+  ReadAssign : Read AccessAssign → Answer
+  ReadAccess : Read MacAccess → Answer
+  ReadData : Read MacData → Answer
+  ReadResource : Read MacResource → Answer
   -- its length: `compute_len`, `compute_header_len`, `update_len_and_fill_ind`
   AllocationLen : Result Bits ℕ → Answer
   HeaderBits : Result Bits ℕ → Answer

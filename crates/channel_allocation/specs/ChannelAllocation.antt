@@ -5,6 +5,7 @@ use Rattle.std.specs.Prelude.{ℕ, zero, suc, ◌+◌, ◌*◌, ◌/◌, ◌%◌
 use Rattle.bits.specs.Bits.{digit}
 use Rattle.tetra_core.specs.Refusal.{unless, first}
 use Rattle.tetra_core.specs.declared.bitbuffer.Cursor.{Cursor}
+use Rattle.tetra_core.specs.declared.bitbuffer.Read.{Read}
 use Rattle.tetra_core.specs.declared.bitbuffer.Moved.{Moved}
 use Rattle.codec.specs.Reader.{Out, Reader, done, refuse, field, here, choose, ◌>>=◌}
 use Rattle.codec.specs.Header.{at_cursor}
@@ -20,7 +21,6 @@ use Rattle.channel_allocation.specs.declared.channel_allocation.TimeslotsAssigne
 use Rattle.channel_allocation.specs.declared.channel_allocation.MonPatterns.{MonPatterns}
 use Rattle.channel_allocation.specs.declared.channel_allocation.MonPatternsPart.{MonPatternsPart}
 use Rattle.channel_allocation.specs.declared.channel_allocation.ChanAllocElement.{ChanAllocElement}
-use Rattle.channel_allocation.specs.declared.channel_allocation.ChannelAllocationRead.{ChannelAllocationRead}
 use Rattle.channel_allocation.specs.declared.channel_allocation.ChannelAllocationPart.{ChannelAllocationPart}
 
 -- ---- the number of each case
@@ -143,9 +143,9 @@ element_of x p =
 abbrev pub channel_allocation_out : List Bool → ChannelAllocationPart → Out ChanAllocElement
 channel_allocation_out h p = part_after p.refusal p.element p.after h
 
-unfoldable pub channel_allocation_at : List ℕ → Cursor → ChannelAllocationRead
+unfoldable pub channel_allocation_at : List ℕ → Cursor → Read ChanAllocElement
 channel_allocation_at =
-    at_cursor read_channel_allocation (λ c a. record { cursor = c; answer = a }) Ok Err
+    at_cursor read_channel_allocation
 
 -- ---- what is written
 

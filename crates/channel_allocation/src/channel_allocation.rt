@@ -12,7 +12,7 @@ use crate::enums::{alloc_type, ul_dl_assignment};
 use codec::encoded::Encoded;
 use codec::piece::Piece;
 use codec::{Ahead, encoded};
-use tetra_core::bitbuffer::{Cursor, Moved};
+use tetra_core::bitbuffer::{Cursor, Moved, Read};
 use tetra_core::quantity::Bits;
 use tetra_core::refusal::Refusal;
 use tetra_core::{bitbuffer, refusal};
@@ -79,13 +79,6 @@ pub struct ChanAllocElement {
     pub mon_pattern: u8,
     // 2 where mon_pattern is 0
     pub frame18_mon_pattern: Option<u8>,
-}
-
-// What a read answers, and the cursor after it.
-#[derive(Clone, Copy)]
-pub struct ChannelAllocationRead {
-    pub cursor: Cursor,
-    pub answer: Result<ChanAllocElement, Refusal>,
 }
 
 // A channel allocation as a part of a header: why it is not read, or number 0; and what is ahead after it.
@@ -269,11 +262,11 @@ pub fn read_channel_allocation(a: Ahead) -> ChannelAllocationPart
 }
 
 // Reads a channel allocation at the cursor.
-pub fn from_bitbuf(s: &[u8], c: Cursor) -> ChannelAllocationRead
+pub fn from_bitbuf(s: &[u8], c: Cursor) -> Read<ChanAllocElement>
     ensures { result ≡ channel_allocation_at s.now c }
 {
     if !bitbuffer::good_window(s.len(), c) {
-        return ChannelAllocationRead {
+        return Read {
             cursor: c,
             answer: Err(Refusal {
                 number: refusal::BAD_WINDOW,
@@ -286,12 +279,12 @@ pub fn from_bitbuf(s: &[u8], c: Cursor) -> ChannelAllocationRead
     let element = part.element;
     let after = part.after;
     if refusal.number != 0 {
-        return ChannelAllocationRead {
+        return Read {
             cursor: c,
             answer: Err(refusal),
         };
     }
-    ChannelAllocationRead {
+    Read {
         cursor: codec::moved_by(c, after.at),
         answer: Ok(element),
     }

@@ -4,6 +4,7 @@ use Rattle.std.specs.Prelude.{ℕ, ◌+◌, List, [], ◌∷◌, ◌++◌, Bool,
 use Rattle.bits.specs.Bits.{digit}
 use Rattle.tetra_core.specs.Refusal.{unless}
 use Rattle.tetra_core.specs.declared.bitbuffer.Cursor.{Cursor}
+use Rattle.tetra_core.specs.declared.bitbuffer.Read.{Read}
 use Rattle.tetra_core.specs.declared.bitbuffer.Moved.{Moved}
 use Rattle.codec.specs.Reader.{Out, got, Reader, done, field, choose, ◌>>=◌}
 use Rattle.codec.specs.Header.{at_cursor, part_out}
@@ -16,7 +17,6 @@ use Rattle.tetra_fields.specs.declared.fields.uplink_head.UplinkHead.{UplinkHead
 use Rattle.mac_access.specs.declared.mac_access.MacAccessOption.{MacAccessOption}
 use Rattle.mac_access.specs.declared.mac_access.MacAccessOption.TheVariants.{Without, LengthInd, CapacityRequest}
 use Rattle.mac_access.specs.declared.mac_access.MacAccess.{MacAccess}
-use Rattle.mac_access.specs.declared.mac_access.MacAccessRead.{MacAccessRead}
 use Rattle.mac_access.specs.declared.mac_access.MacAccessPart.{MacAccessPart}
 use Rattle.mac_access.specs.declared.mac_access.OptionPart.{OptionPart}
 
@@ -73,8 +73,8 @@ option_out h p = part_out p.refusal (got p.option (drop p.next h) p.next)
 abbrev pub mac_access_out : List Bool → MacAccessPart → Out MacAccess
 mac_access_out h p = part_out p.refusal (got p.header (drop p.next h) p.next)
 
-unfoldable pub mac_access_at : List ℕ → Cursor → MacAccessRead
-mac_access_at = at_cursor read_mac_access (λ c a. record { cursor = c; answer = a }) Ok Err
+unfoldable pub mac_access_at : List ℕ → Cursor → Read MacAccess
+mac_access_at = at_cursor read_mac_access
 
 -- a length of 0 marks a null PDU, and a fragment flag the first fragment
 abbrev pub is_null_pdu : MacAccessOption → Bool

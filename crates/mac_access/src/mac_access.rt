@@ -9,7 +9,7 @@ use codec::encoded::Encoded;
 use codec::piece::Piece;
 use codec::{Ahead, encoded};
 use tetra_core::address::UplinkAddress;
-use tetra_core::bitbuffer::{Cursor, Moved};
+use tetra_core::bitbuffer::{Cursor, Moved, Read};
 use tetra_core::refusal::Refusal;
 use tetra_core::{bitbuffer, refusal};
 use tetra_fields::enums::reservation_requirement;
@@ -58,13 +58,6 @@ pub struct MacAccess {
     pub encrypted: bool,
     pub addr: UplinkAddress,
     pub option: MacAccessOption,
-}
-
-// What a read answers, and the cursor after it.
-#[derive(Clone, Copy)]
-pub struct MacAccessRead {
-    pub cursor: Cursor,
-    pub answer: Result<MacAccess, Refusal>,
 }
 
 // A MAC-ACCESS: why it is not read, or number 0; and the offset after it.
@@ -224,11 +217,11 @@ fn read_mac_access(a: Ahead) -> MacAccessPart
 }
 
 // Reads a MAC-ACCESS at the cursor.
-pub fn from_bitbuf(s: &[u8], c: Cursor) -> MacAccessRead
+pub fn from_bitbuf(s: &[u8], c: Cursor) -> Read<MacAccess>
     ensures { result ≡ mac_access_at s.now c }
 {
     if !bitbuffer::good_window(s.len(), c) {
-        return MacAccessRead {
+        return Read {
             cursor: c,
             answer: Err(Refusal {
                 number: refusal::BAD_WINDOW,
@@ -240,12 +233,12 @@ pub fn from_bitbuf(s: &[u8], c: Cursor) -> MacAccessRead
     let refusal = part.refusal;
     let header = part.header;
     if refusal.number != 0 {
-        return MacAccessRead {
+        return Read {
             cursor: c,
             answer: Err(refusal),
         };
     }
-    MacAccessRead {
+    Read {
         cursor: codec::moved_by(c, part.next),
         answer: Ok(header),
     }

@@ -4,6 +4,7 @@ use Rattle.std.specs.Prelude.{ℕ, ◌+◌, ◌-◌, List, [], ◌∷◌, ◌++�
 use Rattle.bits.specs.Bits.{digit}
 use Rattle.tetra_core.specs.Refusal.{unless}
 use Rattle.tetra_core.specs.declared.bitbuffer.Cursor.{Cursor}
+use Rattle.tetra_core.specs.declared.bitbuffer.Read.{Read}
 use Rattle.tetra_core.specs.declared.bitbuffer.Moved.{Moved}
 use Rattle.codec.specs.Reader.{Out, got, Reader, done, field, choose, ◌>>=◌}
 use Rattle.codec.specs.Header.{at_cursor, part_out}
@@ -16,7 +17,6 @@ use Rattle.tetra_fields.specs.declared.fields.uplink_head.UplinkHead.{UplinkHead
 use Rattle.mac_data.specs.declared.mac_data.MacDataOption.{MacDataOption}
 use Rattle.mac_data.specs.declared.mac_data.MacDataOption.TheVariants.{LengthInd, CapacityRequest}
 use Rattle.mac_data.specs.declared.mac_data.MacData.{MacData}
-use Rattle.mac_data.specs.declared.mac_data.MacDataRead.{MacDataRead}
 use Rattle.mac_data.specs.declared.mac_data.MacDataPart.{MacDataPart}
 use Rattle.mac_data.specs.declared.mac_data.OptionPart.{OptionPart}
 
@@ -65,8 +65,8 @@ option_out h p = part_out p.refusal (got p.option (drop p.next h) p.next)
 abbrev pub mac_data_out : List Bool → MacDataPart → Out MacData
 mac_data_out h p = part_out p.refusal (got p.header (drop p.next h) p.next)
 
-unfoldable pub mac_data_at : List ℕ → Cursor → MacDataRead
-mac_data_at = at_cursor read_mac_data (λ c a. record { cursor = c; answer = a }) Ok Err
+unfoldable pub mac_data_at : List ℕ → Cursor → Read MacData
+mac_data_at = at_cursor read_mac_data
 
 -- ---- what is written
 

@@ -9,7 +9,7 @@ use codec::encoded::Encoded;
 use codec::piece::Piece;
 use codec::{Ahead, encoded};
 use tetra_core::address::UplinkAddress;
-use tetra_core::bitbuffer::{Cursor, Moved};
+use tetra_core::bitbuffer::{Cursor, Moved, Read};
 use tetra_core::refusal::Refusal;
 use tetra_core::{bitbuffer, refusal};
 use tetra_fields::enums::reservation_requirement;
@@ -50,13 +50,6 @@ pub struct MacData {
     pub encrypted: bool,
     pub addr: UplinkAddress,
     pub option: MacDataOption,
-}
-
-// What a read answers, and the cursor after it.
-#[derive(Clone, Copy)]
-pub struct MacDataRead {
-    pub cursor: Cursor,
-    pub answer: Result<MacData, Refusal>,
 }
 
 // A MAC-DATA: why it is not read, or number 0; and the offset after it.
@@ -175,11 +168,11 @@ fn read_mac_data(a: Ahead) -> MacDataPart
 }
 
 // Reads a MAC-DATA at the cursor.
-pub fn from_bitbuf(s: &[u8], c: Cursor) -> MacDataRead
+pub fn from_bitbuf(s: &[u8], c: Cursor) -> Read<MacData>
     ensures { result ≡ mac_data_at s.now c }
 {
     if !bitbuffer::good_window(s.len(), c) {
-        return MacDataRead {
+        return Read {
             cursor: c,
             answer: Err(Refusal {
                 number: refusal::BAD_WINDOW,
@@ -191,12 +184,12 @@ pub fn from_bitbuf(s: &[u8], c: Cursor) -> MacDataRead
     let refusal = part.refusal;
     let header = part.header;
     if refusal.number != 0 {
-        return MacDataRead {
+        return Read {
             cursor: c,
             answer: Err(refusal),
         };
     }
-    MacDataRead {
+    Read {
         cursor: codec::moved_by(c, part.next),
         answer: Ok(header),
     }

@@ -1,5 +1,5 @@
 // The numbers that a call is given, and its answer as a status and words: the window first, start, pos and end, and then the value.
-use tetra_core::bitbuffer::{BitsRead, Cursor, Moved};
+use tetra_core::bitbuffer::{Read, Cursor, Moved};
 use tetra_core::refusal::Refusal;
 
 // The status of a call that there is none of.
@@ -81,7 +81,7 @@ pub(crate) fn outcome(a: Result<(), u8>) -> u64 {
     }
 }
 
-pub(crate) fn read(out: &mut [u64; 40], done: BitsRead) -> u64 {
+pub(crate) fn read(out: &mut [u64; 40], done: Read<u64>) -> u64 {
     let answer = done.answer;
     put_window(out, done.cursor);
     number(out, answer)

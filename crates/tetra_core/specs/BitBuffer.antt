@@ -4,7 +4,7 @@ use Rattle.bits.specs.Bits.{digit, odd, bits_at, get_bits, put_bits, bits_of_nat
 use Rattle.tetra_core.specs.Refusal.{unless, first}
 use Rattle.tetra_core.specs.Quantity.{octets_of, fill_of}
 use Rattle.tetra_core.specs.declared.bitbuffer.Cursor.{Cursor}
-use Rattle.tetra_core.specs.declared.bitbuffer.BitsRead.{BitsRead}
+use Rattle.tetra_core.specs.declared.bitbuffer.Read.{Read}
 use Rattle.tetra_core.specs.declared.bitbuffer.Moved.{Moved}
 use Rattle.tetra_core.specs.declared.bitbuffer.Copied.{Copied}
 use Rattle.tetra_core.specs.declared.refusal.Refusal.{Refusal}
@@ -46,14 +46,14 @@ abbrev pub bytes_after : ℕ → List ℕ → List ℕ → List ℕ
 bytes_after zero s t = t
 bytes_after (suc j) s t = s
 
-abbrev pub reads : ℕ → ℕ → Cursor → Cursor → BitsRead
+abbrev pub reads : ℕ → ℕ → Cursor → Cursor → Read ℕ
 reads j v c d = record { cursor = after j c d; answer = answer j v }
 
 abbrev pub moves : ℕ → Cursor → Cursor → Moved
 moves j c d = record { cursor = after j c d; answer = outcome j }
 
 -- a read that is refused by a number
-abbrev pub read_refused : Cursor → ℕ → BitsRead
+abbrev pub read_refused : Cursor → ℕ → Read ℕ
 read_refused c j = record { cursor = c; answer = Err (record { number = j; offset = 0 }) }
 
 -- ---- reads
@@ -63,11 +63,11 @@ unfoldable pub read_refusal : ℕ → Cursor → ℕ → ℕ → ℕ
 read_refusal len c p n =
     first (unless (good_window len c) 13 ∷ unless (leb n 64) 1 ∷ unless (leb c.start p) 1 ∷ unless (leb (p + n) c.end) 1 ∷ [])
 
-unfoldable pub read_bits : List ℕ → Cursor → ℕ → BitsRead
+unfoldable pub read_bits : List ℕ → Cursor → ℕ → Read ℕ
 read_bits s c n = reads (read_refusal (length s) c c.pos n) (get_bits s c.pos n) c (moved c n)
 
 -- a peek at bit p of the slice leaves the cursor
-unfoldable pub peek_at : List ℕ → Cursor → ℕ → ℕ → BitsRead
+unfoldable pub peek_at : List ℕ → Cursor → ℕ → ℕ → Read ℕ
 peek_at s c p n = reads (read_refusal (length s) c p n) (get_bits s p n) c c
 
 -- a number as a signed one
@@ -80,11 +80,11 @@ place_of (pos p) = Some p
 place_of (negsuc k) = None
 
 -- a peek at a signed offset from the cursor: a bit before bit 0 of the slice is before the window's start
-abbrev pub peek_place : List ℕ → Cursor → Option ℕ → ℕ → BitsRead
+abbrev pub peek_place : List ℕ → Cursor → Option ℕ → ℕ → Read ℕ
 peek_place s c (Some p) n = peek_at s c p n
 peek_place s c None n = reads (first (unless (good_window (length s) c) 13 ∷ 1 ∷ [])) 0 c c
 
-unfoldable pub peek_bits_posoffset : List ℕ → Cursor → ℤ → ℕ → BitsRead
+unfoldable pub peek_bits_posoffset : List ℕ → Cursor → ℤ → ℕ → Read ℕ
 peek_bits_posoffset s c o n = peek_place s c (place_of (signed c.pos +ℤ o)) n
 
 -- n bits as bytes, the last one filled up with zeros: 1 where the source is too short, 2 where the destination is
@@ -92,7 +92,7 @@ unfoldable pub into_slice_refusal : ℕ → Cursor → ℕ → ℕ → ℕ
 into_slice_refusal len c n room =
     first (unless (good_window len c) 13 ∷ unless (leb n (remaining c)) 1 ∷ unless (leb (octets_of n) room) 2 ∷ [])
 
-unfoldable pub read_bits_into_slice : List ℕ → Cursor → ℕ → List ℕ → BitsRead
+unfoldable pub read_bits_into_slice : List ℕ → Cursor → ℕ → List ℕ → Read ℕ
 read_bits_into_slice s c n buf = reads (into_slice_refusal (length s) c n (length buf)) n c (moved c n)
 
 unfoldable pub sliced_bits : List ℕ → Cursor → ℕ → List ℕ → List ℕ
@@ -105,7 +105,7 @@ unfoldable pub room_refusal : ℕ → ℕ → Cursor → ℕ → ℕ
 room_refusal j len c n = first (unless (good_window len c) 13 ∷ unless (leb n (remaining c)) j ∷ [])
 
 -- a byte 0 or 1 for each bit, as many as buf has bytes
-unfoldable pub to_bitarr : List ℕ → Cursor → List ℕ → BitsRead
+unfoldable pub to_bitarr : List ℕ → Cursor → List ℕ → Read ℕ
 to_bitarr s c buf = reads (room_refusal 1 (length s) c (length buf)) (length buf) c (moved c (length buf))
 
 unfoldable pub bitarr : List ℕ → Cursor → List ℕ → List ℕ
@@ -118,7 +118,7 @@ window_len c = c.end - c.start
 unfoldable pub bitvec_refusal : ℕ → Cursor → ℕ → ℕ
 bitvec_refusal len c room = first (unless (good_window len c) 13 ∷ unless (leb (window_len c) room) 2 ∷ [])
 
-unfoldable pub into_bitvec : List ℕ → Cursor → List ℕ → BitsRead
+unfoldable pub into_bitvec : List ℕ → Cursor → List ℕ → Read ℕ
 into_bitvec s c buf = reads (bitvec_refusal (length s) c (length buf)) (window_len c) c c
 
 unfoldable pub bitvec : List ℕ → Cursor → List ℕ → List ℕ

@@ -19,9 +19,9 @@ pub struct Cursor {
 
 // What a read answers, and the cursor after it.
 #[derive(Clone, Copy)]
-pub struct BitsRead {
+pub struct Read<T> {
     pub cursor: Cursor,
-    pub answer: Result<u64, Refusal>,
+    pub answer: Result<T, Refusal>,
 }
 
 // The cursor after a call that writes or moves.
@@ -139,17 +139,17 @@ pub fn moved_unless(c: Cursor, number: u8, n: usize) -> Moved
 }
 
 // A read that is refused leaves the cursor.
-fn refused(c: Cursor, number: u8) -> BitsRead
+fn refused(c: Cursor, number: u8) -> Read<u64>
     ensures { result ≡ read_refused c number }
 {
-    BitsRead {
+    Read {
         cursor: c,
         answer: Err(Refusal { number, offset: 0 }),
     }
 }
 
 // Reads num_bits bits, 64 at most.
-pub fn read_bits(s: &[u8], c: Cursor, num_bits: usize) -> BitsRead
+pub fn read_bits(s: &[u8], c: Cursor, num_bits: usize) -> Read<u64>
     ensures { result ≡ read_bits s.now c num_bits }
 {
     let pos = c.pos;
@@ -158,21 +158,21 @@ pub fn read_bits(s: &[u8], c: Cursor, num_bits: usize) -> BitsRead
         return refused(c, number);
     }
     let value = word::get_bits(s, pos, num_bits);
-    BitsRead {
+    Read {
         cursor: moved_to(c, pos + num_bits),
         answer: Ok(value),
     }
 }
 
 // Reads one bit.
-pub fn read_bit(s: &[u8], c: Cursor) -> BitsRead
+pub fn read_bit(s: &[u8], c: Cursor) -> Read<u64>
     ensures { result ≡ read_bits s.now c 1 }
 {
     read_bits(s, c, 1)
 }
 
 // Reads num_bits bits from the bit p of the slice on and leaves the cursor.
-fn peek_at(s: &[u8], c: Cursor, p: usize, num_bits: usize) -> BitsRead
+fn peek_at(s: &[u8], c: Cursor, p: usize, num_bits: usize) -> Read<u64>
     ensures { result ≡ peek_at s.now c p num_bits }
 {
     let number = read_refusal(s.len(), c, p, num_bits);
@@ -180,14 +180,14 @@ fn peek_at(s: &[u8], c: Cursor, p: usize, num_bits: usize) -> BitsRead
         return refused(c, number);
     }
     let value = word::get_bits(s, p, num_bits);
-    BitsRead {
+    Read {
         cursor: c,
         answer: Ok(value),
     }
 }
 
 // Reads num_bits bits at the cursor and leaves it there.
-pub fn peek_bits(s: &[u8], c: Cursor, num_bits: usize) -> BitsRead
+pub fn peek_bits(s: &[u8], c: Cursor, num_bits: usize) -> Read<u64>
     ensures { result ≡ peek_at s.now c c.pos num_bits }
 {
     let pos = c.pos;
@@ -211,7 +211,7 @@ fn place_of(pos: usize, offset: isize) -> Option<usize>
 }
 
 // Reads num_bits bits so many bits from the cursor, before or behind it, and leaves it.
-pub fn peek_bits_posoffset(s: &[u8], c: Cursor, offset: isize, num_bits: usize) -> BitsRead
+pub fn peek_bits_posoffset(s: &[u8], c: Cursor, offset: isize, num_bits: usize) -> Read<u64>
     ensures { result ≡ peek_bits_posoffset s.now c offset num_bits }
 {
     if !good_window(s.len(), c) {
@@ -225,7 +225,7 @@ pub fn peek_bits_posoffset(s: &[u8], c: Cursor, offset: isize, num_bits: usize) 
 }
 
 // Reads num_bits bits so many bits from the window's start, and leaves the cursor.
-pub fn peek_bits_startoffset(s: &[u8], c: Cursor, offset: usize, num_bits: usize) -> BitsRead
+pub fn peek_bits_startoffset(s: &[u8], c: Cursor, offset: usize, num_bits: usize) -> Read<u64>
     ensures { result ≡ peek_at s.now c (c.start + offset) num_bits }
 {
     if !good_window(s.len(), c) {
@@ -268,7 +268,7 @@ fn into_slice_refusal(len: usize, c: Cursor, num_bits: usize, room: usize) -> u8
 }
 
 // Reads num_bits bits into the first bytes of buf, the last one filled up with zeros.
-pub fn read_bits_into_slice(s: &[u8], c: Cursor, num_bits: usize, buf: &mut [u8]) -> BitsRead
+pub fn read_bits_into_slice(s: &[u8], c: Cursor, num_bits: usize, buf: &mut [u8]) -> Read<u64>
     ensures { (result ≡ read_bits_into_slice s.now c num_bits buf.old) × (buf.new ≡ sliced_bits s.now c num_bits buf.old) }
 {
     let number = into_slice_refusal(s.len(), c, num_bits, buf.len());
@@ -277,14 +277,14 @@ pub fn read_bits_into_slice(s: &[u8], c: Cursor, num_bits: usize, buf: &mut [u8]
     }
     let pos = c.pos;
     bitarr::copy_octets(buf, s, pos, num_bits);
-    BitsRead {
+    Read {
         cursor: moved_to(c, pos + num_bits),
         answer: Ok(num_bits as u64),
     }
 }
 
 // Reads a bit into each byte of buf, as 0 or 1.
-pub fn to_bitarr(s: &[u8], c: Cursor, buf: &mut [u8]) -> BitsRead
+pub fn to_bitarr(s: &[u8], c: Cursor, buf: &mut [u8]) -> Read<u64>
     ensures { (result ≡ to_bitarr s.now c buf.old) × (buf.new ≡ bitarr s.now c buf.old) }
 {
     let n = buf.len();
@@ -294,7 +294,7 @@ pub fn to_bitarr(s: &[u8], c: Cursor, buf: &mut [u8]) -> BitsRead
     }
     let pos = c.pos;
     bitarr::spread_all(buf, s, pos);
-    BitsRead {
+    Read {
         cursor: moved_to(c, pos + n),
         answer: Ok(n as u64),
     }
@@ -314,7 +314,7 @@ fn bitvec_refusal(len: usize, c: Cursor, room: usize) -> u8
 }
 
 // The whole window, wherever its cursor is: each bit into a byte, as 0 or 1. Leaves the bytes of buf behind them.
-pub fn into_bitvec(s: &[u8], c: Cursor, buf: &mut [u8]) -> BitsRead
+pub fn into_bitvec(s: &[u8], c: Cursor, buf: &mut [u8]) -> Read<u64>
     ensures { (result ≡ into_bitvec s.now c buf.old) × (buf.new ≡ bitvec s.now c buf.old) }
 {
     let number = bitvec_refusal(s.len(), c, buf.len());
@@ -324,7 +324,7 @@ pub fn into_bitvec(s: &[u8], c: Cursor, buf: &mut [u8]) -> BitsRead
     let start = c.start;
     let n = c.end - start;
     bitarr::spread_all(&mut buf[..n], s, start);
-    BitsRead {
+    Read {
         cursor: c,
         answer: Ok(n as u64),
     }

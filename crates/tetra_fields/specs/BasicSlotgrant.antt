@@ -2,6 +2,7 @@
 use Rattle.std.specs.Prelude.{ℕ, ◌+◌, ◌%◌, List, [], ◌∷◌, Bool, cond, ◌&&◌, drop, get_or, eqb, leb, Err, None, Ok, Option, Some}
 use Rattle.tetra_core.specs.Refusal.{unless}
 use Rattle.tetra_core.specs.declared.bitbuffer.Cursor.{Cursor}
+use Rattle.tetra_core.specs.declared.bitbuffer.Read.{Read}
 use Rattle.tetra_core.specs.declared.bitbuffer.Moved.{Moved}
 use Rattle.codec.specs.Reader.{Out, got, Reader, done, field, ◌>>=◌}
 use Rattle.codec.specs.Header.{at_cursor, part_out}
@@ -17,7 +18,6 @@ use Rattle.tetra_fields.specs.declared.enums.basic_slotgrant_cap_alloc.GrantedSl
 use Rattle.tetra_fields.specs.declared.enums.basic_slotgrant_granting_delay.BasicSlotgrantGrantingDelay.{BasicSlotgrantGrantingDelay}
 use Rattle.tetra_fields.specs.declared.enums.basic_slotgrant_granting_delay.BasicSlotgrantGrantingDelay.TheVariants.{CapAllocAtNextOpportunity, DelayNOpportunities, AllocStartsAtOpportunityInFr18, WaitForAnotherSlotgrantMessage}
 use Rattle.tetra_fields.specs.declared.fields.basic_slotgrant.BasicSlotgrant.{BasicSlotgrant}
-use Rattle.tetra_fields.specs.declared.fields.basic_slotgrant.SlotgrantRead.{SlotgrantRead}
 use Rattle.tetra_fields.specs.declared.fields.basic_slotgrant.SlotgrantPart.{SlotgrantPart}
 
 -- ---- the number of each case
@@ -119,8 +119,8 @@ slotgrant_size = 8
 abbrev pub slotgrant_out : ℕ → List Bool → SlotgrantPart → Out BasicSlotgrant
 slotgrant_out o h p = part_out p.refusal (got p.grant (drop (o + slotgrant_size) h) (o + slotgrant_size))
 
-unfoldable pub slotgrant_at : List ℕ → Cursor → SlotgrantRead
-slotgrant_at = at_cursor read_slotgrant (λ c a. record { cursor = c; answer = a }) Ok Err
+unfoldable pub slotgrant_at : List ℕ → Cursor → Read BasicSlotgrant
+slotgrant_at = at_cursor read_slotgrant
 
 -- ---- what is written
 

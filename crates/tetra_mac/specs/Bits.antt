@@ -3,7 +3,7 @@ use Rattle.std.specs.Prelude.{ℕ, List, [], ◌∷◌, Err, Ok, Result}
 use Rattle.std.proofs.Math.Option.{some}
 use Rattle.tetra_core.specs.BitBuffer.{write_bits, written}
 use Rattle.tetra_core.specs.declared.bitbuffer.Cursor.{Cursor}
-use Rattle.tetra_core.specs.declared.bitbuffer.BitsRead.{BitsRead}
+use Rattle.tetra_core.specs.declared.bitbuffer.Read.{Read}
 use Rattle.tetra_mac.specs.Reply.{Reply, WriteReply, given_reply, denied_reply, read_reply, write_reply}
 
 abbrev pub bits_reply : List ℕ → ℕ → Result ℕ Refusal → Reply
@@ -11,7 +11,7 @@ bits_reply out at (Ok v) = given_reply out at (v ∷ [])
 bits_reply out at (Err r) = denied_reply out at r
 
 -- a read or a peek of the bit buffer
-abbrev pub bits_read_reply : BitsRead → List ℕ → Reply
+abbrev pub bits_read_reply : Read ℕ → List ℕ → Reply
 bits_read_reply d out = read_reply bits_reply 2 d.cursor.pos d.answer out
 
 abbrev pub bits_write_reply : List ℕ → Cursor → ℕ → ℕ → List ℕ → WriteReply

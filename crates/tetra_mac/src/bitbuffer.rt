@@ -6,10 +6,10 @@ ghost use Rattle.tetra_mac.specs.Bits.{bits_bit, bits_reply, bits_read_reply, bi
 
 use crate::record;
 use tetra_core::bitbuffer;
-use tetra_core::bitbuffer::{BitsRead, Cursor};
+use tetra_core::bitbuffer::{Read, Cursor};
 
 // The reply to a read of bits.
-fn bits_reply(out: &mut [u64], done: BitsRead) -> u64
+fn bits_reply(out: &mut [u64], done: Read<u64>) -> u64
     requires { (2 ≤ length out.old) × (bits_bit done.answer ≤ 65536) }
     ensures { replied result out.new ≡ bits_reply out.old done.cursor.pos done.answer }
 {

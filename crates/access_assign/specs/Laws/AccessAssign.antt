@@ -11,6 +11,7 @@ use Rattle.bits.proofs.Laws.Reads.{at-is, length_bits_at}
 use Rattle.bits.proofs.Laws.Writes.{bytes-put_bits, bits_of_put_bits}
 use Rattle.tetra_core.specs.Laws.Windows.{Good, good_facts}
 use Rattle.tetra_core.specs.declared.bitbuffer.Cursor.{Cursor}
+use Rattle.tetra_core.specs.declared.bitbuffer.Read.{Read}
 use Rattle.codec.specs.Reader.{Out, got, refused, parse}
 use Rattle.codec.proofs.Laws.Words.{parse-word, short}
 use Rattle.codec.specs.Header.{within}
@@ -28,7 +29,6 @@ use Rattle.access_assign.specs.Laws.AccessField.{access_field-back, access_field
 use Rattle.access_assign.specs.Laws.Usage.{dl_back, ul_back, dl_again, ul_again}
 use Rattle.access_assign.specs.declared.access_assign.AccessAssign.{AccessAssign}
 use Rattle.access_assign.specs.declared.access_assign.AccessAssign.TheVariants.{DownlinkCommonControlUplinkCommonOnly, DownlinkDefinedUplinkCommonAndAssigned, DownlinkDefinedUplinkAssignedOnly, DownlinkDefinedUplinkDefined}
-use Rattle.access_assign.specs.declared.access_assign.AccessAssignRead.{AccessAssignRead}
 
 pub access_assign_length : (a : AccessAssign) → length (row_bits (access_assign_row a)) ≡ assign_size
 unfolding access_assign_row
@@ -84,7 +84,7 @@ pub access_assign_written-back : (s : List ℕ) (c : Cursor) (a : AccessAssign) 
     → access_assign_at (access_assign_written s c a) c ≡ record { cursor = moved c assign_size; answer = Ok a }
 unfolding access_assign_at
 access_assign_written-back s c a e =
-    written_back read_access_assign (λ c' a'. record { cursor = c'; answer = a' }) Ok Err s c (access_assign_refusal a) _ (access_assign_length a) (λ rest. access_assign_back a (free _ _ _ _ e).value rest 0) e
+    written_back read_access_assign s c (access_assign_refusal a) _ (access_assign_length a) (λ rest. access_assign_back a (free _ _ _ _ e).value rest 0) e
 
 -- ---- what is read is written again
 
@@ -168,17 +168,17 @@ access_assign_written-again s c d a hb e = go (good_window (length s) c) refl (p
   where
     go : (b : Bool) → good_window (length s) c ≡ b → (q : Out AccessAssign) → parse read_access_assign (within s c) 0 ≡ q
         → (access_assign_write s c a ≡ record { cursor = d; answer = (Ok tt) }) × (access_assign_written s c a ≡ s)
-    go false t q x = absurd (let f = ap (λ (r : AccessAssignRead). r.answer) (rw t at e) in let z : ◌≡◌ {A = ℕ} 0 1 = cc in omega arith)
-    go true t (refused j at) x = absurd (let f = ap (λ (r : AccessAssignRead). r.answer) (rw (t, x) at e) in let z : ◌≡◌ {A = ℕ} 0 1 = cc in omega arith)
+    go false t q x = absurd (let f = ap (λ (r : Read AccessAssign). r.answer) (rw t at e) in let z : ◌≡◌ {A = ℕ} 0 1 = cc in omega arith)
+    go true t (refused j at) x = absurd (let f = ap (λ (r : Read AccessAssign). r.answer) (rw (t, x) at e) in let z : ◌≡◌ {A = ℕ} 0 1 = cc in omega arith)
     go true t (got v r n) x =
         let f = rw (t, x) at e in
-        let answer = ap (λ (r : AccessAssignRead). r.answer) f in
+        let answer = ap (λ (r : Read AccessAssign). r.answer) f in
         let same : v ≡ a = cc in
         let i = rw same at (access_assign_again (within s c) 0 x) in
         let g = good_facts (length s) c t in
         let room = ends read_access_assign s c g x in
         let n14 : n ≡ 14 = i.1 in
-        let moves : moved c 14 ≡ d = rw n14 at (ap (λ (r : AccessAssignRead). r.cursor) f) in
+        let moves : moved c 14 ≡ d = rw n14 at (ap (λ (r : Read AccessAssign). r.cursor) f) in
         let p : s ≡ put_bits s c.pos (row_bits (access_assign_row a)) = rw i.2 (sym (put_same s c 14 hb g (omega arith))) in
         let z = free_test (length s) c (access_assign_refusal a) 14 (record { good = g; value = i.0; room = omega arith }) in
         let w = write_done s c _ (access_assign_length a) refl refl z p in

@@ -196,7 +196,7 @@ pub channel_allocation-written-back : (s : List ℕ) (c : Cursor) (e : ChanAlloc
     ≡ record { cursor = moved c (channel_allocation_len e); answer = Ok (normal_channel_allocation e) }
 unfolding channel_allocation_at
 channel_allocation-written-back s c e h =
-    written_back read_channel_allocation (λ c' a'. record { cursor = c'; answer = a' }) Ok Err s c (channel_allocation_refusal e) (channel_allocation_bits e) (channel_allocation-length e)
+    written_back read_channel_allocation s c (channel_allocation_refusal e) (channel_allocation_bits e) (channel_allocation-length e)
     (λ rest. rw zero-add at (channel_allocation-back e (free _ _ _ _ h).value rest 0)) h
 
 -- ---- what is read, written again

@@ -1,5 +1,5 @@
 -- The laws of specs/RoundTrip.antt.
-use Rattle.std.specs.Prelude.{ℕ, ◌+◌, ◌-◌, ◌*◌, ◌≤◌, ◌≡◌, refl, List, [], ◌∷◌, ◌++◌, Bool, true, false, eqb, length}
+use Rattle.std.specs.Prelude.{Ok, ℕ, ◌+◌, ◌-◌, ◌*◌, ◌≤◌, ◌≡◌, refl, List, [], ◌∷◌, ◌++◌, Bool, true, false, eqb, length}
 use Rattle.std.proofs.Common.{ap, ◌∙◌, append_assoc, arith, add_assoc, eqb-true}
 use Rattle.bits.specs.Bits.{bits_at, put_bits}
 use Rattle.tetra_core.specs.BitBuffer.{remaining, moved}
@@ -58,10 +58,10 @@ within-put s c xs g h =
     parts : (n m : ℕ) → m ≤ n → n ≡ m + (n - m)
     parts n m l = omega arith
 
-pub written_back : {A B R : Type 0} (p : Reader A) (make : Cursor → B → R) (value : A → B) (deny : Refusal → B) (s : List ℕ) (c : Cursor) (j : ℕ) (xs : List Bool) {v : A} {n : ℕ}
+pub written_back : {A : Type 0} (p : Reader A) (s : List ℕ) (c : Cursor) (j : ℕ) (xs : List Bool) {v : A} {n : ℕ}
     → length xs ≡ n → ((rest : List Bool) → parse p (xs ++ rest) 0 ≡ got v rest n) → refusal_at (length s) c j n ≡ 0
-    → at_cursor p make value deny (written_at s c j xs) c ≡ make (moved c n) (value v)
+    → at_cursor p (written_at s c j xs) c ≡ record { cursor = moved c n; answer = Ok v }
 unfolding written_at
-written_back p make value deny s c j xs {n = n} l back e =
+written_back p s c j xs {n = n} l back e =
     let f = free (length s) c j n e in
     rw (l, e, length-put_bits s c.pos xs, good_test (length s) c f.good, within-put s c xs f.good (rw l f.room), back _)

@@ -10,7 +10,7 @@ use Rattle.bits.proofs.Laws.Writes.{bits_of_put_bits, bytes-put_bits}
 use Rattle.tetra_core.specs.BitBuffer.{good_window, remaining, moved}
 use Rattle.tetra_core.specs.Laws.Windows.{good_facts}
 use Rattle.tetra_core.specs.declared.bitbuffer.Cursor.{Cursor}
-use Rattle.tetra_core.specs.declared.refusal.Refusal.{Refusal}
+use Rattle.tetra_core.specs.declared.bitbuffer.Read.{Read}
 use Rattle.codec.specs.Reader.{Out, got, refused, Reader, done, refuse, field, here, choose, parse, ◌>>=◌}
 use Rattle.codec.proofs.Laws.Reader.{field-there, field-short, inside}
 use Rattle.codec.specs.Header.{within, answered, at_cursor}
@@ -56,20 +56,23 @@ every_bind (field w k) f Q P h g =
     λ v l. every_bind (k v) f (λ a xs. Q a (bits_of_nat w v ++ xs)) (λ b xs. P b (bits_of_nat w v ++ xs)) (h v l)
     (λ a xs z. subst (Every (f a)) (λ i b ys. P b (append_assoc (bits_of_nat w v) xs ys i)) (g a (bits_of_nat w v ++ xs) z))
 
-pub read_at : {A B R : Type 0} (p : Reader A) (make : Cursor → B → R) (value : A → B) (deny : Refusal → B) (s : List ℕ) (c d : Cursor) (v : A)
-    → ((x : Cursor) (a : A) → make x (value a) ≡ make d (value v) → (x ≡ d) × (a ≡ v)) → ((x : Cursor) (r : Refusal) → make x (deny r) ≡ make d (value v) → ⊥)
-    → at_cursor p make value deny s c ≡ make d (value v) → ReadAt p s c v d
-read_at {A} p make value deny s c d v same other e = window (good_window (length s) c) refl
+pub read_at : {A : Type 0} (p : Reader A) (s : List ℕ) (c d : Cursor) (v : A)
+    → at_cursor p s c ≡ record { cursor = d; answer = Ok v } → ReadAt p s c v d
+read_at {A} p s c d v e = window (good_window (length s) c) refl
   where
-    header : (o : Out A) → parse p (within s c) 0 ≡ o → good_window (length s) c ≡ true → answered make value deny c o ≡ make d (value v) → ReadAt p s c v d
+    read_as : A → Read A
+    read_as a = record { cursor = d; answer = Ok a }
+
+    header : (o : Out A) → parse p (within s c) 0 ≡ o → good_window (length s) c ≡ true → answered c o ≡ read_as v → ReadAt p s c v d
     header (got a r n) f g q =
-        let t = same (moved c n) a q in
-        record { good = good_facts (length s) c g; rest = r; count = n; seen = rw t.1 at f; after = sym t.0 }
-    header (refused j m) f g q = absurd (other c _ q)
+        let u = ap (λ (t : Read A). t.answer) q in
+        let t : a ≡ v = cc in
+        record { good = good_facts (length s) c g; rest = r; count = n; seen = rw t at f; after = sym (ap (λ (t : Read A). t.cursor) q) }
+    header (refused j m) f g q = absurd (let u = ap (λ (t : Read A). t.answer) q in cc)
 
     window : (b : Bool) → good_window (length s) c ≡ b → ReadAt p s c v d
     window true g = header (parse p (within s c) 0) refl g (rw g at e)
-    window false g = absurd (other c _ (rw g at e))
+    window false g = absurd (let u = ap (λ (t : Read A). t.answer) (rw g at e) in cc)
 
 put_same : (s : List ℕ) (p n : ℕ) → Bytes s → p + n ≤ 8 * length s → put_bits s p (bits_at s p n) ≡ s
 unfolding splice bits_at

@@ -7,6 +7,7 @@ use Rattle.tetra_core.specs.BitBuffer.{moved}
 use Rattle.tetra_core.specs.Refusal.{passed}
 use Rattle.bits.proofs.Laws.Values.{digit_lt}
 use Rattle.tetra_core.specs.declared.bitbuffer.Cursor.{Cursor}
+use Rattle.tetra_core.specs.declared.bitbuffer.Read.{Read}
 use Rattle.codec.specs.Reader.{got, parse}
 use Rattle.codec.specs.Header.{within}
 use Rattle.codec.specs.Row.{size, row_bits, RowFits}
@@ -24,7 +25,6 @@ use Rattle.mac_access.specs.MacAccess.{head_of, mac_access_of, read_request, rea
 use Rattle.mac_access.specs.declared.mac_access.MacAccessOption.{MacAccessOption}
 use Rattle.mac_access.specs.declared.mac_access.MacAccessOption.TheVariants.{Without, LengthInd, CapacityRequest}
 use Rattle.mac_access.specs.declared.mac_access.MacAccess.{MacAccess}
-use Rattle.mac_access.specs.declared.mac_access.MacAccessRead.{MacAccessRead}
 
 pub option_fits : (o : MacAccessOption) → option_refusal o ≡ 0 → RowFits (option_row o)
 option_fits Without e = (lit< tt, tt)
@@ -57,7 +57,7 @@ pub mac_access_written-back : (s : List ℕ) (c : Cursor) (h : MacAccess) → re
     → mac_access_at (mac_access_written s c h) c ≡ record { cursor = moved c (mac_access_size h); answer = Ok (normal h) }
 unfolding mac_access_at
 mac_access_written-back s c h e =
-    written_back read_mac_access (λ c' a'. record { cursor = c'; answer = a' }) Ok Err s c (mac_access_refusal h) _ (mac_access_length h)
+    written_back read_mac_access s c (mac_access_refusal h) _ (mac_access_length h)
     (λ rest. mac_access_back h (free _ _ _ _ e).value rest 0 ∙ rw zero-add) e
 
 -- ---- what was read is written again
@@ -87,8 +87,6 @@ pub mac_access_written-again : (s : List ℕ) (c d : Cursor) (h : MacAccess) →
     → (mac_access_write s c h ≡ record { cursor = d; answer = (Ok tt) }) × (mac_access_written s c h ≡ s)
 unfolding mac_access_at
 mac_access_written-again s c d h b e f =
-    let r = read_at read_mac_access (λ c' a'. record { cursor = c'; answer = a' }) Ok Err s c d h
-    (λ x a q. (ap (λ (t : MacAccessRead). t.cursor) q, let u = ap (λ (t : MacAccessRead). t.answer) q in cc))
-    (λ x j q. let u = ap (λ (t : MacAccessRead). t.answer) q in let z : ◌≡◌ {A = ℕ} 0 1 = cc in omega arith) e in
+    let r = read_at read_mac_access s c d h e in
     let a = mac_access_again (within s c) r.seen in
     written-again r (row_bits (mac_access_row h)) b a.1 (a.0 f)

@@ -8,6 +8,7 @@ use Rattle.tetra_core.specs.BitBuffer.{moved}
 use Rattle.tetra_core.specs.Refusal.{passed}
 use Rattle.bits.proofs.Laws.Values.{digit_lt}
 use Rattle.tetra_core.specs.declared.bitbuffer.Cursor.{Cursor}
+use Rattle.tetra_core.specs.declared.bitbuffer.Read.{Read}
 use Rattle.codec.specs.Reader.{got, parse}
 use Rattle.codec.specs.Header.{within}
 use Rattle.codec.specs.Row.{size, row_bits, RowFits}
@@ -26,7 +27,6 @@ use Rattle.mac_data.specs.MacData.{option_size, head_of, mac_data_of, read_reque
 use Rattle.mac_data.specs.declared.mac_data.MacDataOption.{MacDataOption}
 use Rattle.mac_data.specs.declared.mac_data.MacDataOption.TheVariants.{LengthInd, CapacityRequest}
 use Rattle.mac_data.specs.declared.mac_data.MacData.{MacData}
-use Rattle.mac_data.specs.declared.mac_data.MacDataRead.{MacDataRead}
 
 pub option_fits : (o : MacDataOption) → option_refusal o ≡ 0 → RowFits (option_row o)
 option_fits (LengthInd n) e = let h = leb-true n 63 (passed _ 2 e) in (lit< tt, (omega arith, tt))
@@ -61,7 +61,7 @@ pub mac_data_written-back : (s : List ℕ) (c : Cursor) (h : MacData) → refusa
     → mac_data_at (mac_data_written s c h) c ≡ record { cursor = moved c (mac_data_size h); answer = Ok (normal h) }
 unfolding mac_data_at
 mac_data_written-back s c h e =
-    written_back read_mac_data (λ c' a'. record { cursor = c'; answer = a' }) Ok Err s c (mac_data_refusal h) _ (mac_data_length h)
+    written_back read_mac_data s c (mac_data_refusal h) _ (mac_data_length h)
     (λ rest. mac_data_back h (free _ _ _ _ e).value rest 0 ∙ rw zero-add) e
 
 -- ---- what was read is written again, where its reserved bit is 0
@@ -106,8 +106,6 @@ pub mac_data_written-again : (s : List ℕ) (c d : Cursor) (h : MacData) → Byt
     → (mac_data_write s c h ≡ record { cursor = d; answer = (Ok tt) }) × (mac_data_written s c h ≡ s)
 unfolding mac_data_at
 mac_data_written-again s c d h b e f z =
-    let r = read_at read_mac_data (λ c' a'. record { cursor = c'; answer = a' }) Ok Err s c d h
-    (λ x a q. (ap (λ (t : MacDataRead). t.cursor) q, let u = ap (λ (t : MacDataRead). t.answer) q in cc))
-    (λ x j q. let u = ap (λ (t : MacDataRead). t.answer) q in let z : ◌≡◌ {A = ℕ} 0 1 = cc in omega arith) e in
+    let r = read_at read_mac_data s c d h e in
     let a = mac_data_again (within s c) r.seen in
     written-again r (row_bits (mac_data_row h)) b (a.1 (rw (← read-bits r) at z)) (a.0 f)

@@ -5,6 +5,7 @@ use Rattle.std.proofs.lemmas.Bool.{not-false}
 use Rattle.tetra_core.specs.Refusal.{unless, first}
 use Rattle.tetra_core.specs.declared.address.DownlinkAddress.{DownlinkAddress}
 use Rattle.tetra_core.specs.declared.bitbuffer.Cursor.{Cursor}
+use Rattle.tetra_core.specs.declared.bitbuffer.Read.{Read}
 use Rattle.codec.specs.Reader.{got, parse}
 use Rattle.codec.specs.Header.{within}
 use Rattle.codec.specs.Row.{row_bits}
@@ -24,7 +25,6 @@ use Rattle.mac_resource.specs.declared.enums.mac_resource_addr_type.MacResourceA
 use Rattle.mac_resource.specs.declared.fixed.Fixed.{Fixed}
 use Rattle.optional_elements.specs.declared.elements.Elements.{Elements}
 use Rattle.mac_resource.specs.declared.mac_resource.MacResource.{MacResource}
-use Rattle.mac_resource.specs.declared.mac_resource.MacResourceRead.{MacResourceRead}
 
 -- ---- the first 16 bits
 
@@ -128,8 +128,6 @@ pub null-read : (s : List ℕ) (c d : Cursor) (h : MacResource) → mac_resource
     → is_null h.addr ≡ true → h ≡ null_of h.length_ind
 unfolding mac_resource_at
 null-read s c d h e n =
-    let r = read_at read_mac_resource (λ c' a'. record { cursor = c'; answer = a' }) Ok Err s c d h
-    (λ x a q. (ap (λ (t : MacResourceRead). t.cursor) q, let u = ap (λ (t : MacResourceRead). t.answer) q in cc))
-    (λ x j q. let u = ap (λ (t : MacResourceRead). t.answer) q in let z : ◌≡◌ {A = ℕ} 0 1 = cc in omega arith) e in
+    let r = read_at read_mac_resource s c d h e in
     let k = (mac_resource_again (within s c) 0 r.seen).0 n in
     k.header ∙ ap null_of (sym (ap (λ (x : MacResource). x.length_ind) k.header))

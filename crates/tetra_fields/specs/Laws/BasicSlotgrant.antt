@@ -73,7 +73,7 @@ pub slotgrant_written-back : (s : List ℕ) (c : Cursor) (g : BasicSlotgrant) �
     → slotgrant_at (slotgrant_written s c g) c ≡ record { cursor = moved c slotgrant_size; answer = Ok g }
 unfolding slotgrant_at
 slotgrant_written-back s c g e =
-    written_back read_slotgrant (λ c' a'. record { cursor = c'; answer = a' }) Ok Err s c (slotgrant_refusal g) _ (slotgrant_length g) (λ rest. slotgrant_back g (free _ _ _ _ e).value rest 0) e
+    written_back read_slotgrant s c (slotgrant_refusal g) _ (slotgrant_length g) (λ rest. slotgrant_back g (free _ _ _ _ e).value rest 0) e
 
 -- ---- what is read, written again
 

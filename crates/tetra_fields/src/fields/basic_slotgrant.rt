@@ -13,7 +13,7 @@ use crate::enums::{
 use codec::encoded::Encoded;
 use codec::piece::Piece;
 use codec::{Ahead, encoded};
-use tetra_core::bitbuffer::{Cursor, Moved};
+use tetra_core::bitbuffer::{Cursor, Moved, Read};
 use tetra_core::refusal::Refusal;
 use tetra_core::{bitbuffer, refusal};
 
@@ -27,13 +27,6 @@ const CAPACITY: u64 = 1 << 4;
 pub struct BasicSlotgrant {
     pub capacity_allocation: BasicSlotgrantCapAlloc,
     pub granting_delay: BasicSlotgrantGrantingDelay,
-}
-
-// What a read answers, and the cursor after it.
-#[derive(Clone, Copy)]
-pub struct SlotgrantRead {
-    pub cursor: Cursor,
-    pub answer: Result<BasicSlotgrant, Refusal>,
 }
 
 // A slot grant as a part of a header: why it is not read, or number 0.
@@ -80,11 +73,11 @@ pub fn read_slotgrant(a: Ahead) -> SlotgrantPart
 }
 
 // Reads a slot grant at the cursor.
-pub fn from_bitbuf(s: &[u8], c: Cursor) -> SlotgrantRead
+pub fn from_bitbuf(s: &[u8], c: Cursor) -> Read<BasicSlotgrant>
     ensures { result ≡ slotgrant_at s.now c }
 {
     if !bitbuffer::good_window(s.len(), c) {
-        return SlotgrantRead {
+        return Read {
             cursor: c,
             answer: Err(Refusal {
                 number: refusal::BAD_WINDOW,
@@ -96,12 +89,12 @@ pub fn from_bitbuf(s: &[u8], c: Cursor) -> SlotgrantRead
     let refusal = part.refusal;
     let grant = part.grant;
     if refusal.number != 0 {
-        return SlotgrantRead {
+        return Read {
             cursor: c,
             answer: Err(refusal),
         };
     }
-    SlotgrantRead {
+    Read {
         cursor: codec::moved_by(c, SIZE),
         answer: Ok(grant),
     }

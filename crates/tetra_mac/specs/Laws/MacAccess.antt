@@ -3,6 +3,7 @@ use Rattle.std.specs.Prelude.{ℕ, ◌≤◌, ◌≡◌, refl, List, true, lengt
 use Rattle.std.proofs.Math.Option.{some}
 use Rattle.std.proofs.Common.{arith, lt-ltb}
 use Rattle.tetra_core.specs.declared.bitbuffer.Cursor.{Cursor}
+use Rattle.tetra_core.specs.declared.bitbuffer.Read.{Read}
 use Rattle.tetra_core.specs.declared.refusal.Refusal.{Refusal}
 use Rattle.codec.proofs.Laws.Cases.{flag-back}
 use Rattle.tetra_fields.specs.ReservationRequirement.{reservation_number}
@@ -13,11 +14,10 @@ use Rattle.mac_access.specs.MacAccess.{read_request, read_chosen, read_option, r
 use Rattle.mac_access.specs.declared.mac_access.MacAccessOption.{MacAccessOption}
 use Rattle.mac_access.specs.declared.mac_access.MacAccessOption.TheVariants.{Without, LengthInd, CapacityRequest}
 use Rattle.mac_access.specs.declared.mac_access.MacAccess.{MacAccess}
-use Rattle.mac_access.specs.declared.mac_access.MacAccessRead.{MacAccessRead}
 use Rattle.tetra_mac.specs.Reply.{value_if}
 use Rattle.tetra_mac.specs.MacAccess.{option_kind, option_first, option_reservation, option_known, option_value, mac_access_words, mac_access_known, mac_access_value, mac_access_of_words}
 use Rattle.tetra_mac.specs.Laws.Address.{UplinkTyped, uplink_kept}
-use Rattle.tetra_mac.specs.Laws.Placed.{bit-within}
+use Rattle.tetra_mac.specs.Laws.Placed.{bit-within, refused_bit}
 use Rattle.tetra_mac.specs.Laws.Reply.{kept, long-enough}
 
 -- the length of an option is of its field's type
@@ -46,14 +46,9 @@ pub mac_access_long : (ws : List ℕ) → mac_access_known ws ≡ true → 8 ≤
 unfolding mac_access_known
 mac_access_long ws e = long-enough 8 ws _ e
 
-abbrev mac_access_bit : Result MacAccess Refusal → ℕ
-mac_access_bit (Ok h) = 0
-mac_access_bit (Err r) = r.offset
-
-pub mac_access_bit_lem : (s : List ℕ) (c : Cursor) {d : MacAccessRead} {r : Refusal} → d ≡ mac_access_at s c → d.answer ≡ Err r → r.offset ≤ 65536
+pub mac_access_bit_lem : (s : List ℕ) (c : Cursor) {d : Read MacAccess} {r : Refusal} → d ≡ mac_access_at s c → d.answer ≡ Err r → r.offset ≤ 65536
 unfolding mac_access_at read_mac_access read_option read_chosen read_request read_uplink_head read_uplink_body read_uplink_address
 mac_access_bit_lem s c e a =
-    let b : mac_access_bit (mac_access_at s c).answer ≤ 65536 =
-    bit-within read_mac_access (λ c' a'. record { cursor = c'; answer = a' }) Ok Err (λ (d : MacAccessRead). mac_access_bit d.answer) (λ c h. refl) (λ c r. refl)
-    (λ _. (omega arith, λ _ _ _ _ _. (tt, λ _. ((λ _. tt), (λ _ _. tt))))) s c in
+    let b : refused_bit (mac_access_at s c).answer ≤ 65536 =
+    bit-within read_mac_access (λ _. (omega arith, λ _ _ _ _ _. (tt, λ _. ((λ _. tt), (λ _ _. tt))))) s c in
     rw (← e, a) at b

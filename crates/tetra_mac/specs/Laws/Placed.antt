@@ -45,17 +45,19 @@ stops {A} (field w k) bs o m h l = go (leb w (length bs)) refl (λ v r. stops (k
         rw (field-there w bs o w_le) (f _ (drop w bs) (omega (arith, length-drop w bs)))
     go false e f = rw (field-short w bs o (leb-false w (length bs) e)) (omega arith)
 
--- the same of a call: bit gives the bit of its refusal, or 0
-pub bit-within : {A B R : Type 0} (p : Reader A) (make : Cursor → B → R) (value : A → B) (deny : Refusal → B) (bit : R → ℕ)
-    → ((c : Cursor) (a : A) → bit (make c (value a)) ≡ 0) → ((c : Cursor) (r : Refusal) → bit (make c (deny r)) ≡ r.offset) → Placed 0 p
-    → (s : List ℕ) (c : Cursor) → bit (at_cursor p make value deny s c) ≤ 65536
-bit-within {A} p make value deny bit v d h s c = go (good_window (length s) c) refl
-  where
-    at : (o : Out A) → Stops 65536 o → bit (answered make value deny c o) ≤ 65536
-    at (got a r n) z = rw (v (moved c n) a) (omega arith)
-    at (refused j m) z = rw (d c (record { number = j; offset = m })) z
+-- the same of a call: the first bit of the field that it refuses, or 0
+abbrev pub refused_bit : {A : Type 0} → Result A Refusal → ℕ
+refused_bit (Ok a) = 0
+refused_bit (Err r) = r.offset
 
-    go : (b : Bool) → good_window (length s) c ≡ b → bit (at_cursor p make value deny s c) ≤ 65536
+pub bit-within : {A : Type 0} (p : Reader A) → Placed 0 p → (s : List ℕ) (c : Cursor) → refused_bit (at_cursor p s c).answer ≤ 65536
+bit-within {A} p h s c = go (good_window (length s) c) refl
+  where
+    at : (o : Out A) → Stops 65536 o → refused_bit (answered c o).answer ≤ 65536
+    at (got a r n) z = omega arith
+    at (refused j m) z = z
+
+    go : (b : Bool) → good_window (length s) c ≡ b → refused_bit (at_cursor p s c).answer ≤ 65536
     go true e =
         let g = good_facts (length s) c e in
         rw e (at (parse p (within s c) 0) (stops p (within s c) 0 65536 h (omega (arith, length-within s c g))))
