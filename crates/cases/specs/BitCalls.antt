@@ -4,6 +4,7 @@ use Rattle.std.specs.Prelude.{◌≡◌, true, false, List, [], ◌∷◌, ◌++
 use Rattle.tetra_core.specs.BitBuffer.{at, read_bits, peek_at, read_bits_into_slice, sliced_bits, to_bitarr, bitarr, into_bitvec, bitvec, write_bits, written, write_run, run_written, copy_bits, copied, copy_bits_from_bitarr, from_bitarr, window_count, changed, seek_rel, opened}
 use Rattle.tetra_core.specs.Quantity.{octet_count}
 use Rattle.tetra_core.specs.declared.bitbuffer.Cursor.{Cursor}
+use Rattle.tetra_core.specs.declared.refusal.Refusal.{Refusal}
 use Rattle.tetra_core.specs.declared.bitbuffer.Read.{Read}
 use Rattle.tetra_core.specs.declared.bitbuffer.Moved.{Moved}
 use Rattle.tetra_core.specs.declared.bitbuffer.Copied.{Copied}

@@ -3,6 +3,8 @@
 use Rattle.std.specs.Prelude.{◌≡◌, Bool, true, false, List, [], ◌∷◌, ◌++◌, map, ℕ, replicate, Err, None, Ok, Option, Result, Some}
 use Rattle.std.proofs.Math.Option.{Option}
 use Rattle.tetra_core.specs.declared.address.SsiType.{SsiType}
+use Rattle.tetra_core.specs.declared.quantity.Bits.{Bits}
+use Rattle.tetra_core.specs.declared.refusal.Refusal.{Refusal}
 use Rattle.tetra_core.specs.declared.address.DownlinkAddress.{DownlinkAddress}
 use Rattle.tetra_core.specs.declared.address.UplinkAddress.{UplinkAddress}
 use Rattle.tetra_core.specs.BitBuffer.{read_bits, opened}

@@ -6,6 +6,7 @@ use Rattle.bits.specs.Bits.{digit}
 use Rattle.tetra_core.specs.Refusal.{unless, first}
 use Rattle.tetra_core.specs.declared.bitbuffer.Cursor.{Cursor}
 use Rattle.tetra_core.specs.declared.bitbuffer.Read.{Read}
+use Rattle.tetra_core.specs.declared.quantity.Bits.{Bits}
 use Rattle.tetra_core.specs.declared.bitbuffer.Moved.{Moved}
 use Rattle.codec.specs.Reader.{Out, Reader, done, refuse, field, here, choose, ◌>>=◌}
 use Rattle.codec.specs.Header.{at_cursor}

@@ -147,11 +147,7 @@ fn patterns_refused(offset: usize, after: Ahead) -> MonPatternsPart
     }
 }
 
-fn patterns_read(
-    mon_pattern: u8,
-    frame18_mon_pattern: Option<u8>,
-    after: Ahead,
-) -> MonPatternsPart
+fn patterns_read(mon_pattern: u8, frame18_mon_pattern: Option<u8>, after: Ahead) -> MonPatternsPart
     ensures { result ≡ record { refusal = record { number = 0; offset = 0 }; patterns = record { mon_pattern = mon_pattern; frame18_mon_pattern = frame18_mon_pattern }; after = after } }
 {
     MonPatternsPart {
@@ -182,11 +178,7 @@ fn read_mon_patterns(a: Ahead) -> MonPatternsPart
         return patterns_refused(b.at, a);
     }
     let v = codec::next_bits(b, 2);
-    patterns_read(
-        pattern as u8,
-        Some(v as u8),
-        codec::advance(b, 2),
-    )
+    patterns_read(pattern as u8, Some(v as u8), codec::advance(b, 2))
 }
 
 // The channel allocation whose first 23 bits are the number x, with its patterns.

@@ -7,6 +7,7 @@ ghost use Rattle.tetra_core.specs.BitBuffer.{read_bits, peek_at, write_bits, wri
 
 use tetra_core::bitbuffer;
 use tetra_core::bitbuffer::Cursor;
+use tetra_core::refusal::Refusal;
 
 // Reads a field of num_bits bits, 64 at most.
 pub fn read_field(s: &[u8], c: &mut Cursor, num_bits: usize) -> Result<u64, Refusal>
@@ -48,7 +49,13 @@ pub fn write_field(s: &mut [u8], c: &mut Cursor, value: u64, num_bits: usize) ->
 }
 
 // Copies num_bits bits of s at its cursor c into t at its cursor d, and moves both on.
-pub fn copy_bits(t: &mut [u8], d: &mut Cursor, s: &[u8], c: &mut Cursor, num_bits: usize) -> Result<(), u8>
+pub fn copy_bits(
+    t: &mut [u8],
+    d: &mut Cursor,
+    s: &[u8],
+    c: &mut Cursor,
+    num_bits: usize,
+) -> Result<(), u8>
     ensures { (result ≡ (copy_bits t.old d.old s.now c.old num_bits).answer)
         × (d.new ≡ (copy_bits t.old d.old s.now c.old num_bits).cursor)
         × (c.new ≡ (copy_bits t.old d.old s.now c.old num_bits).source)

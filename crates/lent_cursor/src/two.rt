@@ -3,6 +3,7 @@ ghost use Rattle.std.specs.Prelude.{◌≡◌};
 ghost use Rattle.lent_cursor.specs.Two.{two_of};
 
 use tetra_core::bitbuffer::Cursor;
+use tetra_core::refusal::Refusal;
 
 // Two fields in a row, and the cursor after them.
 #[derive(Clone, Copy)]

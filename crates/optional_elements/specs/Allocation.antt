@@ -6,6 +6,7 @@ use Rattle.codec.specs.Row.{Cell, cell}
 use Rattle.channel_allocation.specs.ChannelAllocation.{read_channel_allocation, len_refusal, channel_allocation_refusal, channel_allocation_bits, channel_allocation_most, channel_allocation_len, normal_channel_allocation}
 use Rattle.optional_elements.specs.Optional.{optional}
 use Rattle.optional_elements.specs.declared.allocation.AllocationPart.{AllocationPart}
+use Rattle.channel_allocation.specs.declared.channel_allocation.ChanAllocElement.{ChanAllocElement}
 
 -- ---- how many bits
 

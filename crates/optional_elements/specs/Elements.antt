@@ -2,6 +2,8 @@
 use Rattle.std.specs.Prelude.{ℕ, ◌+◌, List, [], ◌∷◌, ◌++◌, Bool, true, false, ◌&&◌, eqb, leb, None, Option, Some}
 use Rattle.tetra_core.specs.Refusal.{first}
 use Rattle.codec.specs.declared.Ahead.{Ahead}
+use Rattle.channel_allocation.specs.declared.channel_allocation.ChanAllocElement.{ChanAllocElement}
+use Rattle.tetra_fields.specs.declared.fields.basic_slotgrant.BasicSlotgrant.{BasicSlotgrant}
 use Rattle.codec.specs.Ahead.{next_bits, part_after}
 use Rattle.codec.specs.Reader.{Out, Reader, done, ◌>>=◌}
 use Rattle.codec.specs.Row.{row_bits}

@@ -6,6 +6,7 @@ use Rattle.codec.specs.Row.{Cell, cell}
 use Rattle.tetra_fields.specs.BasicSlotgrant.{read_slotgrant, slotgrant_refusal, slotgrant_row}
 use Rattle.optional_elements.specs.Optional.{optional}
 use Rattle.optional_elements.specs.declared.slot_granting.GrantingPart.{GrantingPart}
+use Rattle.tetra_fields.specs.declared.fields.basic_slotgrant.BasicSlotgrant.{BasicSlotgrant}
 
 -- ---- how many bits
 

@@ -111,16 +111,7 @@ fn is_bare(e: Elements) -> bool
     let behind = e.grant_and_allocation;
     let granting = behind.slot_granting_element;
     let allocation = behind.chan_alloc_element;
-    match power {
-        Some(_) => false,
-        None => match granting {
-            Some(_) => false,
-            None => match allocation {
-                Some(_) => false,
-                None => true,
-            },
-        },
-    }
+    power.is_none() && granting.is_none() && allocation.is_none()
 }
 
 // Why an element is not written, or 0.

@@ -5,9 +5,11 @@ ghost use Rattle.codec.specs.Piece.{Holds};
 ghost use Rattle.optional_elements.specs.GrantAndAllocation.{grant_and_allocation_most, read_grant_and_allocation, grant_and_allocation_out, grant_and_allocation_refusal, grant_and_allocation_len, grant_and_allocation_bits};
 
 use crate::{allocation, slot_granting};
+use channel_allocation::channel_allocation::ChanAllocElement;
 use codec::piece::Piece;
 use codec::{Ahead, piece};
 use tetra_core::refusal::Refusal;
+use tetra_fields::fields::basic_slotgrant::BasicSlotgrant;
 
 // Each with the bits of its flag and its own.
 #[derive(Clone, Copy)]

@@ -1,5 +1,5 @@
 // The numbers that a call is given, and its answer as a status and words: the window first, start, pos and end, and then the value.
-use tetra_core::bitbuffer::{Read, Cursor, Moved};
+use tetra_core::bitbuffer::{Cursor, Moved, Read};
 use tetra_core::refusal::Refusal;
 
 // The status of a call that there is none of.

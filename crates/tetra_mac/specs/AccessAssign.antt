@@ -4,6 +4,7 @@
 use Rattle.std.specs.Prelude.{ℕ, min, List, [], ◌∷◌, ◌++◌, Bool, false, cond, ◌&&◌, length, get_or, eqb, leb, ltb, Err, Ok, Result}
 use Rattle.std.proofs.Math.Option.{Option}
 use Rattle.tetra_core.specs.declared.bitbuffer.Cursor.{Cursor}
+use Rattle.tetra_core.specs.declared.refusal.Refusal.{Refusal}
 use Rattle.access_assign.specs.AccessField.{access_code_number, access_code_of, base_frame_length_number, base_frame_length_of}
 use Rattle.access_assign.specs.AccessAssign.{access_assign_at, access_assign_write, access_assign_written}
 use Rattle.access_assign.specs.declared.structs.access_field.AccessField.{AccessField}

@@ -4,6 +4,8 @@ use Rattle.std.specs.Prelude.{ℕ, min, List, [], ◌∷◌, Bool, cond, ◌&&�
 use Rattle.std.proofs.Math.Option.{Option}
 use Rattle.bits.specs.Bits.{digit}
 use Rattle.tetra_core.specs.declared.bitbuffer.Cursor.{Cursor}
+use Rattle.tetra_core.specs.declared.quantity.Bits.{Bits}
+use Rattle.tetra_core.specs.declared.refusal.Refusal.{Refusal}
 use Rattle.codec.specs.Cases.{flag}
 use Rattle.channel_allocation.specs.ChannelAllocation.{alloc_type_number, alloc_type_of, ul_dl_number, ul_dl_of, timeslots_number, timeslots_of, frame18_number, channel_allocation_at, channel_allocation_write, channel_allocation_written, compute_len}
 use Rattle.channel_allocation.specs.declared.channel_allocation.ChanAllocElement.{ChanAllocElement}

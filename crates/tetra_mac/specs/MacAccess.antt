@@ -5,6 +5,7 @@ use Rattle.std.proofs.Math.Option.{Option}
 use Rattle.tetra_core.specs.Address.{uplink_address_type}
 use Rattle.bits.specs.Bits.{digit}
 use Rattle.tetra_core.specs.declared.bitbuffer.Cursor.{Cursor}
+use Rattle.tetra_core.specs.declared.refusal.Refusal.{Refusal}
 use Rattle.codec.specs.Cases.{flag}
 use Rattle.tetra_fields.specs.ReservationRequirement.{reservation_number, reservation_of}
 use Rattle.tetra_fields.specs.UplinkAddress.{uplink_number}

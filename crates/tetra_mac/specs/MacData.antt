@@ -2,6 +2,7 @@
 use Rattle.std.specs.Prelude.{ℕ, List, Bool, ◌&&◌, Err, Ok, Result}
 use Rattle.std.proofs.Math.Option.{Option}
 use Rattle.tetra_core.specs.declared.bitbuffer.Cursor.{Cursor}
+use Rattle.tetra_core.specs.declared.refusal.Refusal.{Refusal}
 use Rattle.codec.specs.Cases.{flag}
 use Rattle.mac_access.specs.declared.mac_access.MacAccess.{MacAccess}
 use Rattle.mac_access.specs.declared.mac_access.MacAccessOption.{MacAccessOption}

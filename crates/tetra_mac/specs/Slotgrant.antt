@@ -3,6 +3,7 @@
 use Rattle.std.specs.Prelude.{ℕ, min, List, [], ◌∷◌, Bool, ◌&&◌, length, get_or, leb, Err, Ok, Result}
 use Rattle.std.proofs.Math.Option.{Option}
 use Rattle.tetra_core.specs.declared.bitbuffer.Cursor.{Cursor}
+use Rattle.tetra_core.specs.declared.refusal.Refusal.{Refusal}
 use Rattle.tetra_fields.specs.BasicSlotgrant.{cap_alloc_number, cap_alloc_of, slotgrant_at, slotgrant_write, slotgrant_written}
 use Rattle.tetra_fields.specs.declared.enums.basic_slotgrant_granting_delay.BasicSlotgrantGrantingDelay.{BasicSlotgrantGrantingDelay}
 use Rattle.tetra_fields.specs.declared.enums.basic_slotgrant_granting_delay.BasicSlotgrantGrantingDelay.TheVariants.{CapAllocAtNextOpportunity, DelayNOpportunities, AllocStartsAtOpportunityInFr18, WaitForAnotherSlotgrantMessage}

@@ -6,7 +6,7 @@ ghost use Rattle.tetra_mac.specs.Bits.{bits_bit, bits_reply, bits_read_reply, bi
 
 use crate::record;
 use tetra_core::bitbuffer;
-use tetra_core::bitbuffer::{Read, Cursor};
+use tetra_core::bitbuffer::{Cursor, Read};
 
 // The reply to a read of bits.
 fn bits_reply(out: &mut [u64], done: Read<u64>) -> u64

@@ -12,6 +12,7 @@ ghost use Rattle.mac_resource.specs.MacResource.{null_of, elements_of, add_refus
 ghost use Rattle.tetra_mac.specs.Reply.{replied, wrote, window, put_first, given_reply};
 ghost use Rattle.tetra_resource.specs.MacResource.{fixed_words, address_words, power_words, first_words, granting_words, allocation_words, mac_resource_words, power_value, granting_known, granting_value, allocation_known, allocation_value, first_fields, address_of_words, power_of_words, assembled, bare_of, mac_resource_known, mac_resource_value, mac_resource_read_reply, mac_resource_write_reply, header_len_reply, update_len_reply};
 
+use channel_allocation::channel_allocation::ChanAllocElement;
 use codec::encoded;
 use codec::encoded::{Encoded, EncodedHeader};
 use codec::piece::Piece;
@@ -23,6 +24,7 @@ use optional_elements::grant_and_allocation::GrantAndAllocation;
 use tetra_core::address::DownlinkAddress;
 use tetra_core::bitbuffer::Cursor;
 use tetra_core::refusal;
+use tetra_fields::fields::basic_slotgrant::BasicSlotgrant;
 use tetra_mac::{address, allocation, record, slotgrant};
 
 // The places of the record: an element has its flag and, behind it, its own record.
@@ -339,13 +341,7 @@ fn bare_of(words: &[u64]) -> MacResource
     requires { 25 ≤ length words.now }
     ensures { result ≡ bare_of words.now }
 {
-    assembled(
-        first_fields(words),
-        address_of(words),
-        None,
-        None,
-        None,
-    )
+    assembled(first_fields(words), address_of(words), None, None, None)
 }
 
 // Whether the words' header has no element. Most have none: asked of the words, it saves them the elements.

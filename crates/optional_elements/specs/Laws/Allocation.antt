@@ -11,6 +11,7 @@ use Rattle.channel_allocation.specs.ChannelAllocation.{read_channel_allocation, 
 use Rattle.channel_allocation.specs.Laws.ChannelAllocation.{channel_allocation-length, channel_allocation-len, channel_allocation-back, ChannelAllocationAgain, channel_allocation_every}
 use Rattle.optional_elements.specs.Allocation.{allocation_most, allocation_len, allocation_element, read_allocation, allocation_refusal, flag_row, allocation_bits, normal_allocation}
 use Rattle.optional_elements.specs.Laws.Optional.{optional-zero, optional-one, optional_every}
+use Rattle.channel_allocation.specs.declared.channel_allocation.ChanAllocElement.{ChanAllocElement}
 
 pub allocation-length : (a : Option ChanAllocElement) → length (row_bits (flag_row a) ++ allocation_bits a) ≡ allocation_len a
 allocation-length None = rw (append-nil, length_row (flag_row None))

@@ -7,6 +7,8 @@ use Rattle.std.proofs.Math.Nat.{add_assoc}
 use Rattle.bits.specs.Bits.{bits_of_nat}
 use Rattle.tetra_core.specs.Refusal.{first, first-none, first_skip, first_last}
 use Rattle.codec.specs.declared.Ahead.{Ahead}
+use Rattle.channel_allocation.specs.declared.channel_allocation.ChanAllocElement.{ChanAllocElement}
+use Rattle.tetra_fields.specs.declared.fields.basic_slotgrant.BasicSlotgrant.{BasicSlotgrant}
 use Rattle.codec.specs.Reader.{got, parse}
 use Rattle.codec.proofs.Laws.Reader.{parse_bind}
 use Rattle.codec.specs.Header.{Word}

@@ -11,6 +11,7 @@ use Rattle.tetra_fields.specs.BasicSlotgrant.{read_slotgrant, slotgrant_row}
 use Rattle.tetra_fields.specs.Laws.BasicSlotgrant.{slotgrant_back, SlotgrantAgain, slotgrant_every}
 use Rattle.optional_elements.specs.SlotGranting.{granting_most, granting_len, granting_element, read_granting, granting_refusal, granting_row}
 use Rattle.optional_elements.specs.Laws.Optional.{optional-zero, optional-one, optional_every}
+use Rattle.tetra_fields.specs.declared.fields.basic_slotgrant.BasicSlotgrant.{BasicSlotgrant}
 
 pub granting-length : (g : Option BasicSlotgrant) → length (row_bits (granting_row g)) ≡ granting_len g
 unfolding slotgrant_row
