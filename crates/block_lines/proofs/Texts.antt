@@ -1,4 +1,5 @@
 -- The text of a block, as a walk puts it: line by line.
+use Rattle.std.specs.Prelude.{Result, Option, Ok, Err, Some, None}
 use mathlib.Core.Path.{◌≡◌, refl, sym, ap, ◌∙◌}
 use mathlib.Core.Bool.{Bool, true, false}
 use mathlib.Core.List.{List, [], ◌∷◌, ◌++◌, append_assoc, append-nil}
@@ -10,7 +11,6 @@ use Rattle.text.specs.Counts.{IsPrefixLen}
 use Rattle.text.specs.Put.{Put, AtStart}
 use Rattle.text.specs.Laws.Puts.{then, wider, reads, put_nothing, at-start, start-counts}
 use Rattle.mac_block.specs.declared.reader.BlockEntry.{BlockEntry}
-use Rattle.mac_block.specs.declared.reader.StepAnswer.{StepAnswer}
 use Rattle.block_rules.specs.Walk.{good_block, step, follow, walk_by, walk_from, walk}
 use Rattle.block_rules.specs.Downlink.{downlink_reader}
 use Rattle.block_rules.proofs.Laws.Blocks.{held}
@@ -25,8 +25,8 @@ use Rattle.block_lines.specs.Most.{line_most, rest_most, entries_most, listing_m
 use Rattle.block_lines.proofs.Lines.{answer_line, lines_on}
 
 -- an answer that is no entry
-abbrev NoEntry : StepAnswer → Type 0
-NoEntry a = (e : BlockEntry) → a ≡ StepAnswer.Entry e → ⊥
+abbrev NoEntry : Result (Option BlockEntry) Refusal → Type 0
+NoEntry a = (e : BlockEntry) → a ≡ Ok (Some e) → ⊥
 
 module _ (v : List ℕ) (n : ℕ) where
   -- ---- how many lines there are
@@ -52,17 +52,17 @@ module _ (v : List ℕ) (n : ℕ) where
 
   -- ---- the line of a step
 
-  line-next : (x : Position) {w : WalkStep} {e : BlockEntry} → w ≡ step_from v n x → w.answer ≡ StepAnswer.Entry e
+  line-next : (x : Position) {w : WalkStep} {e : BlockEntry} → w ≡ step_from v n x → w.answer ≡ Ok (Some e)
       → lines_from v n x ≡ entry_line e ∷ lines_from v n w.position
   unfolding answer_line
   line-next x q a = rw q (let b = rw q at a in lines_on v n x ∙ rw b)
 
   -- an answer that is no entry is the walk's end
-  ends_by : (p : ℕ) (a : StepAnswer) → NoEntry a → answer_line a ++ lines_from v n (after p a) ≡ []
+  ends_by : (p : ℕ) (a : Result (Option BlockEntry) Refusal) → NoEntry a → answer_line a ++ lines_from v n (after p a) ≡ []
   unfolding answer_line after lines_from walk_on
-  ends_by p (StepAnswer.Entry e) k = absurd (k e refl)
-  ends_by p StepAnswer.End k = refl
-  ends_by p (StepAnswer.Refused r) k = refl
+  ends_by p (Ok (Some e)) k = absurd (k e refl)
+  ends_by p (Ok None) k = refl
+  ends_by p (Err r) k = refl
 
   no_next : (x : Position) {w : WalkStep} → w ≡ step_from v n x → NoEntry w.answer → lines_from v n x ≡ []
   unfolding step_from lines_from walk_on
@@ -83,7 +83,7 @@ module _ (v : List ℕ) (n : ℕ) where
   nothing d at = record { text = []; lines = 0; put = put_nothing d at; count = omega (arith, few-lines); whole = refl; rest = refl }
 
   pub turn : {d e f : List ℕ} {at p r : ℕ} (x : Position) {w : WalkStep} {b : BlockEntry} → Written d at x p e → w ≡ step_from v n x
-      → w.answer ≡ StepAnswer.Entry b → Put line_most e p (line_text (entry_line b)) r f → Written d at w.position r f
+      → w.answer ≡ Ok (Some b) → Put line_most e p (line_text (entry_line b)) r f → Written d at w.position r f
   unfolding lines_text
   turn x {w} {b} k q a l =
       let next = line-next x q a in

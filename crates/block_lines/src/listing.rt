@@ -7,7 +7,6 @@ ghost use Rattle.block_lines.specs.Most.{rest_most, listing_most};
 
 use crate::line;
 use block_walk::Position;
-use mac_block::reader::StepAnswer;
 
 // The bytes of a listing at the most.
 pub const MOST_TEXT: usize = 3776;
@@ -30,7 +29,7 @@ fn block_text(out: &mut [u8], at: usize, block: &[u8], bits: usize) -> usize
         let step = block_walk::walk_step(block, bits, position);
         let answer = step.answer;
         position = step.position;
-        let StepAnswer::Entry(entry) = answer else {
+        let Ok(Some(entry)) = answer else {
             return rest_text(out, p, block_walk::rest_from(block, bits, position));
         };
         p = line::line_text(out, p, line::entry_line(entry));

@@ -1,8 +1,7 @@
 -- A walk's positions: what the step from each answers, and the position after it. Document 01, "Block".
-use Rattle.std.specs.Prelude.{ℕ, ◌+◌, ◌-◌, ◌≤◌, List, None, Option, Some}
+use Rattle.std.specs.Prelude.{ℕ, ◌+◌, ◌-◌, ◌≤◌, List, None, Option, Some, Result, Ok, Err}
 use Rattle.std.specs.Borrow.{Bor}
 use Rattle.mac_block.specs.declared.reader.BlockEntry.{BlockEntry}
-use Rattle.mac_block.specs.declared.reader.StepAnswer.{StepAnswer}
 use Rattle.block_rules.specs.Numbers.{most_bits, least_bits}
 use Rattle.block_rules.specs.Walk as block
 use Rattle.block_rules.specs.Downlink.{DownlinkHeader, downlink_reader}
@@ -23,18 +22,18 @@ after_entry (BlockEntry.Null p) = Position.Ended (p + least_bits)
 after_entry (BlockEntry.Refused pdu) = after_end pdu.bit pdu.end
 
 -- the position after the answer of a step from the bit p
-unfoldable pub after : (p : ℕ) → StepAnswer → Position
-after p (StepAnswer.Entry e) = after_entry e
-after p StepAnswer.End = Position.Ended p
-after p (StepAnswer.Refused r) = Position.Ended p
+unfoldable pub after : (p : ℕ) → Result (Option BlockEntry) Refusal → Position
+after p (Ok (Some e)) = after_entry e
+after p (Ok None) = Position.Ended p
+after p (Err r) = Position.Ended p
 
-abbrev pub stepped : (p : ℕ) → StepAnswer → WalkStep
+abbrev pub stepped : (p : ℕ) → Result (Option BlockEntry) Refusal → WalkStep
 stepped p a = record { position = after p a; answer = a }
 
 -- in a block of n bits in the bytes v: the block's step, and "a walk that ended gives end again"
 unfoldable pub step_from : (v : List ℕ) (n : ℕ) → Position → WalkStep
 step_from v n (Position.At p) = stepped p (step_answer (block.step downlink_reader v n p))
-step_from v n (Position.Ended q) = record { position = Position.Ended q; answer = StepAnswer.End }
+step_from v n (Position.Ended q) = record { position = Position.Ended q; answer = Ok None }
 
 -- the block's walk, from a position on
 unfoldable pub walk_on : (v : List ℕ) (n : ℕ) → Position → block.Walk DownlinkHeader

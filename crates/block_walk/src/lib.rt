@@ -6,7 +6,8 @@ ghost use Rattle.block_walk.specs.Positions.{NullFits, after_end, after_entry, s
 
 use block_rules::LEAST_BITS;
 use mac_block::reader;
-use mac_block::reader::{BlockEntry, RefusedPdu, StepAnswer};
+use mac_block::reader::{BlockEntry, RefusedPdu};
+use tetra_core::refusal::Refusal;
 
 // Where a walk is. A bit alone would not say it: behind a null PDU the walk has ended, and bits that look like another PDU may follow.
 #[derive(Clone, Copy)]
@@ -21,7 +22,7 @@ pub enum Position {
 #[derive(Clone, Copy)]
 pub struct WalkStep {
     pub position: Position,
-    pub answer: StepAnswer,
+    pub answer: Result<Option<BlockEntry>, Refusal>,
 }
 
 fn after_refused(pdu: RefusedPdu) -> Position
@@ -50,17 +51,17 @@ fn step_at(block: &[u8], bits: usize, bit: usize) -> WalkStep
     ensures { result ≡ step_from block.now bits (Position.At bit) }
 {
     match reader::step(block, bits, bit) {
-        StepAnswer::Entry(entry) => WalkStep {
+        Ok(Some(entry)) => WalkStep {
             position: after_entry(entry),
-            answer: StepAnswer::Entry(entry),
+            answer: Ok(Some(entry)),
         },
-        StepAnswer::End => WalkStep {
+        Ok(None) => WalkStep {
             position: Position::Ended(bit),
-            answer: StepAnswer::End,
+            answer: Ok(None),
         },
-        StepAnswer::Refused(refusal) => WalkStep {
+        Err(refusal) => WalkStep {
             position: Position::Ended(bit),
-            answer: StepAnswer::Refused(refusal),
+            answer: Err(refusal),
         },
     }
 }
@@ -73,7 +74,7 @@ fn step_from(block: &[u8], bits: usize, position: Position) -> WalkStep
         Position::At(bit) => step_at(block, bits, bit),
         Position::Ended(rest_at) => WalkStep {
             position: Position::Ended(rest_at),
-            answer: StepAnswer::End,
+            answer: Ok(None),
         },
     }
 }
@@ -125,7 +126,7 @@ impl<'a> Walk<'a> {
     }
 
     // What the step from here answers; the walk moves on behind it.
-    pub fn next(&mut self) -> StepAnswer
+    pub fn next(&mut self) -> Result<Option<BlockEntry>, Refusal>
         ensures { (result ≡ (step_from self.old.block.now self.old.bits self.old.position).answer)
             × (self.new ≡ moved self.old) }
     {

@@ -1,6 +1,6 @@
 -- The rules of document 01's "Block" at their edges, in the form of specs/Cases.antt: a row for each rule, with the sentence that it holds.
 -- docs/TRUST.md says which wrong definitions each row refuses. `proofs/Cases.antt` computes every row.
-use Rattle.std.specs.Prelude.{◌⊎◌, Bool, true, false, List, [], ◌∷◌, ◌++◌, map, ℕ, ◌≤◌, ◌<◌, replicate, Err, None, Option, Some}
+use Rattle.std.specs.Prelude.{◌⊎◌, Bool, true, false, List, [], ◌∷◌, ◌++◌, map, ℕ, ◌≤◌, ◌<◌, replicate, Err, None, Option, Some, Ok}
 use Rattle.std.proofs.Math.Option.{none, some}
 use Rattle.tetra_core.specs.declared.address.SsiType.{SsiType}
 use Rattle.tetra_core.specs.declared.address.DownlinkAddress.{DownlinkAddress}
@@ -16,7 +16,6 @@ use Rattle.block_rules.specs.Walk.{Pdu, Entry, place}
 use Rattle.block_rules.specs.Writer.{add_of}
 use Rattle.block_rules.specs.Run.{Call}
 use Rattle.block_rules.specs.Downlink.{DownlinkHeader, HeaderToAdd, resource_to_add}
-use Rattle.mac_block.specs.declared.reader.StepAnswer.{StepAnswer}
 use Rattle.mac_block.specs.declared.writer.Written.{Written}
 use Rattle.cases.specs.Cases.{Answer, check, Row, block_from, block, stepped, allocation, header, plain, ssi1, adds_header, adds, counts, done, refused, entry, pdu, null, walked, was_read_at, null_at, refused_at, no_step}
 
@@ -101,8 +100,8 @@ fills =
 abbrev pub steps_from : Row
 steps_from =
     check (stepped (second 0x00 0x39) 96 80) (refused_at 80 None 8 7)
-    ∷ check (stepped (second 0x00 0x39) 96 81) (Answer.Step StepAnswer.End)
-    ∷ check (stepped (second 0x00 0x39) 96 96) (Answer.Step StepAnswer.End)
+    ∷ check (stepped (second 0x00 0x39) 96 81) (Answer.Step (Ok None))
+    ∷ check (stepped (second 0x00 0x39) 96 96) (Answer.Step (Ok None))
     ∷ check (stepped (second 0x00 0x39) 96 97) (no_step 13)
     ∷ []
 

@@ -39,7 +39,6 @@ use Rattle.block_rules.specs.Writer.{Writer, writer_at, finish_to, add_of, add_t
 use Rattle.block_rules.specs.Run.{Call, run}
 use Rattle.block_rules.specs.Downlink.{DownlinkHeader, downlink_reader, HeaderToAdd, resource_to_add, downlink_writer}
 use Rattle.mac_block.specs.declared.reader.BlockEntry.{BlockEntry}
-use Rattle.mac_block.specs.declared.reader.StepAnswer.{StepAnswer}
 use Rattle.mac_block.specs.declared.writer.Written.{Written}
 use Rattle.mac_block.specs.Answers.{step_answer, finish_answer, add_answer}
 
@@ -63,7 +62,7 @@ pub data Answer : Type 0 where
   -- the adds and finishes of a block, each with the writer's bit after it, the bytes that are left, and the walk of the block then
   Block : List Written → (bytes : List ℕ) → Walk DownlinkHeader → Answer
   -- one step in a block
-  Step : StepAnswer → Answer
+  Step : Result (Option BlockEntry) Refusal → Answer
   -- the places of entries, as demand 3 has them
   Places : List (ℕ × Option ℕ) → Answer
 
@@ -186,17 +185,17 @@ walked es p = record { entries = es; rest_at = p }
 abbrev pub was_read_at : (bit end : ℕ) → MacResource → (from to : ℕ) → Answer
 was_read_at p e h a b =
     Answer.Step
-    (StepAnswer.Entry (BlockEntry.Resource (record { bit = p; end = e; header = h; content_start = a; content_end = b })))
+    (Ok (Some (BlockEntry.Resource (record { bit = p; end = e; header = h; content_start = a; content_end = b }))))
 
 abbrev pub null_at : (bit : ℕ) → Answer
-null_at p = Answer.Step (StepAnswer.Entry (BlockEntry.Null p))
+null_at p = Answer.Step (Ok (Some (BlockEntry.Null p)))
 
 abbrev pub refused_at : (bit : ℕ) → Option ℕ → (number offset : ℕ) → Answer
 refused_at p e j o =
-    Answer.Step (StepAnswer.Entry (BlockEntry.Refused (record { bit = p; end = e; refusal = record { number = j; offset = o } })))
+    Answer.Step (Ok (Some (BlockEntry.Refused (record { bit = p; end = e; refusal = record { number = j; offset = o } }))))
 
 abbrev pub no_step : (number : ℕ) → Answer
-no_step j = Answer.Step (StepAnswer.Refused (record { number = j; offset = 0 }))
+no_step j = Answer.Step (Err (record { number = j; offset = 0 }))
 
 -- the bytes of a PDU of 34 octets less 4 bits: its first two, and ones behind the header
 abbrev pub ones : ℕ → ℕ → List ℕ

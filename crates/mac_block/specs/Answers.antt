@@ -1,5 +1,5 @@
 -- What the calls on a block answer: each case of the definitions as a case of the declared types, bits of the PDU as bits of the block.
-use Rattle.std.specs.Prelude.{ℕ, ◌+◌, length, None, Some}
+use Rattle.std.specs.Prelude.{ℕ, ◌+◌, length, None, Some, Result, Option, Ok, Err}
 use Rattle.tetra_core.specs.BitBuffer.{outcome}
 use Rattle.tetra_core.specs.declared.refusal.Refusal.{Refusal}
 use Rattle.block_rules.specs.Codec.{HeaderWriter}
@@ -8,7 +8,6 @@ use Rattle.block_rules.specs.Walk.{Pdu, Step}
 use Rattle.block_rules.specs.Writer.{Writer, finish_refusal, finish_to, Add, add_refusal, add_to}
 use Rattle.block_rules.specs.Downlink.{DownlinkHeader}
 use Rattle.mac_block.specs.declared.reader.BlockEntry.{BlockEntry}
-use Rattle.mac_block.specs.declared.reader.StepAnswer.{StepAnswer}
 use Rattle.mac_block.specs.declared.writer.Written.{Written}
 
 -- ---- a step
@@ -27,10 +26,10 @@ entry_of p (Pdu.null l) = BlockEntry.Null p
 entry_of p (Pdu.sized s r) = sized_entry p s r
 entry_of p (Pdu.unsized j o) = BlockEntry.Refused (record { bit = p; end = None; refusal = refusal j o })
 
-unfoldable pub step_answer : Step DownlinkHeader → StepAnswer
-step_answer (Step.refused j o) = StepAnswer.Refused (refusal j o)
-step_answer Step.end = StepAnswer.End
-step_answer (Step.entry e) = StepAnswer.Entry (entry_of e.bit e.pdu)
+unfoldable pub step_answer : Step DownlinkHeader → Result (Option BlockEntry) Refusal
+step_answer (Step.refused j o) = Err (refusal j o)
+step_answer Step.end = Ok None
+step_answer (Step.entry e) = Ok (Some (entry_of e.bit e.pdu))
 
 -- ---- an add and a finish
 

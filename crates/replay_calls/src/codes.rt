@@ -8,15 +8,9 @@ use access_assign::structs::base_frame_length::BaseFrameLength;
 use access_assign::structs::{access_field, base_frame_length};
 use mac_resource::enums::mac_resource_addr_type as addr_type;
 use mac_resource::enums::mac_resource_addr_type::MacResourceAddrType;
-use tetra_fields::enums::basic_slotgrant_cap_alloc::{
-    BasicSlotgrantCapAlloc, Option<BasicSlotgrantCapAlloc>, GrantedSlots,
-};
-use tetra_fields::enums::basic_slotgrant_granting_delay::{
-    BasicSlotgrantGrantingDelay, Option<BasicSlotgrantGrantingDelay>,
-};
-use tetra_fields::enums::reservation_requirement::{
-    ReqSlotcount, Option<ReservationRequirement>, ReservationRequirement,
-};
+use tetra_fields::enums::basic_slotgrant_cap_alloc::{BasicSlotgrantCapAlloc, GrantedSlots};
+use tetra_fields::enums::basic_slotgrant_granting_delay::BasicSlotgrantGrantingDelay;
+use tetra_fields::enums::reservation_requirement::{ReqSlotcount, ReservationRequirement};
 use tetra_fields::enums::{
     basic_slotgrant_cap_alloc as cap_alloc, basic_slotgrant_granting_delay as delay,
     reservation_requirement as reservation,
@@ -147,9 +141,7 @@ fn code_found(a: Option<AccessCode>, out: &mut [u64; 40]) -> u64 {
 
 fn frame_length_found(l: Option<BaseFrameLength>, out: &mut [u64; 40]) -> u64 {
     match l {
-        Some(l) => {
-            answers::two(out, frame_length(l), base_frame_length::into_raw(l))
-        }
+        Some(l) => { answers::two(out, frame_length(l), base_frame_length::into_raw(l)) }
         None => 0,
     }
 }

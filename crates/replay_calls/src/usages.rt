@@ -5,11 +5,9 @@ use crate::answers::Given;
 use access_assign::access_assign as assign;
 use access_assign::access_assign::AccessAssign;
 use access_assign::enums::access_assign_dl_usage::AccessAssignDlUsage;
-use access_assign::enums::access_assign_ul_usage::{
-    AccessAssignUlUsage, Option<u8>, Option<AccessAssignUlUsage>,
-};
+use access_assign::enums::access_assign_ul_usage::AccessAssignUlUsage;
 use access_assign::enums::{
-    Option<u8>, access_assign_dl_usage as dl_usage, access_assign_ul_usage as ul_usage,
+    access_assign_dl_usage as dl_usage, access_assign_ul_usage as ul_usage,
 };
 use access_assign::structs::access_field;
 use mac_access::mac_access as access;

@@ -9,7 +9,7 @@ ghost use Rattle.tetra_mac.specs.Reply.{replied, wrote, put_first, moved_reply};
 ghost use Rattle.tetra_block.specs.Block.{no_header, has_end, end_bit, resource_words, refused_words, entry_words, length_known, length_value, add_known, writer_moved, block_step_reply, block_add_reply, block_finish_reply};
 
 use block_rules::to_add::LengthIndication;
-use mac_block::reader::{BlockEntry, RefusedPdu, ResourcePdu, StepAnswer};
+use mac_block::reader::{BlockEntry, RefusedPdu, ResourcePdu};
 use mac_block::writer::Written;
 use mac_block::{reader, writer};
 use tetra_core::bitbuffer::{Cursor, Moved};
@@ -109,16 +109,16 @@ pub fn tetra_block_step(block: &[u8], bits: usize, bit: usize, out: &mut [u64]) 
         return record::MALFORMED;
     }
     match reader::step(block, bits, bit) {
-        StepAnswer::Entry(e) => {
+        Ok(Some(e)) => {
             put_entry(out, e);
             0
         }
-        StepAnswer::End => {
+        Ok(None) => {
             let words = [0u64; 8];
             put_bare(out, &words);
             0
         }
-        StepAnswer::Refused(r) => record::status(r),
+        Err(r) => record::status(r),
     }
 }
 

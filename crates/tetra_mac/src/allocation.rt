@@ -6,9 +6,7 @@ ghost use Rattle.tetra_mac.specs.ChannelAllocation.{frame18_present, frame18_val
 
 use crate::record;
 use channel_allocation::channel_allocation as allocation;
-use channel_allocation::channel_allocation::{
-    ChanAllocElement, Result<Bits, u8>, Result<ChanAllocElement, Refusal>, Option<u8>,
-};
+use channel_allocation::channel_allocation::ChanAllocElement;
 use channel_allocation::enums::{alloc_type, ul_dl_assignment};
 use tetra_core::bitbuffer::Cursor;
 

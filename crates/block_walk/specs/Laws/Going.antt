@@ -1,5 +1,5 @@
 -- The walk from a position on is what the step there gives, and the walk from the position after it.
-use Rattle.std.specs.Prelude.{◌≡◌, Bool, true, false, List, [], ◌∷◌, ℕ, suc, ◌+◌, ◌-◌, ◌≤◌, ◌<◌, length}
+use Rattle.std.specs.Prelude.{◌≡◌, Bool, true, false, List, [], ◌∷◌, ℕ, suc, ◌+◌, ◌-◌, ◌≤◌, ◌<◌, length, Result, Option, Ok, Some, None}
 use Rattle.std.proofs.Math.Path.{refl}
 use Rattle.std.proofs.Common.{sym, ap, ◌∙◌, arith}
 use Rattle.std.proofs.Math.Decide.{dec_le}
@@ -8,7 +8,6 @@ use Rattle.bits.specs.Bits.{bits_at}
 use Rattle.bits.proofs.Laws.Reads.{length_bits_at}
 use Rattle.block_rules.specs.declared.extent.Extent.{Extent}
 use Rattle.mac_block.specs.declared.reader.BlockEntry.{BlockEntry}
-use Rattle.mac_block.specs.declared.reader.StepAnswer.{StepAnswer}
 use Rattle.block_rules.specs.Numbers.{most_bits}
 use Rattle.block_rules.specs.Extent.{extent}
 use Rattle.block_rules.specs.Read.{Reading}
@@ -148,13 +147,13 @@ fits p (Pdu.sized s (Reading.read k m content fill)) h = tt
 fits p (Pdu.sized s (Reading.refused j o)) h = tt
 fits p (Pdu.unsized j o) h = tt
 
-fits-inside : (v : List ℕ) (n p : ℕ) (s : Step DownlinkHeader) (e : BlockEntry) → Inside v n p s → step_answer s ≡ StepAnswer.Entry e → NullFits e
+fits-inside : (v : List ℕ) (n p : ℕ) (s : Step DownlinkHeader) (e : BlockEntry) → Inside v n p s → step_answer s ≡ Ok (Some e) → NullFits e
 unfolding Inside step_answer
 fits-inside v n p (Step.refused j o) e k z = absurd (let w : ◌≡◌ {A = ℕ} 0 1 = cc in omega arith)
 fits-inside v n p Step.end e k z = absurd (let w : ◌≡◌ {A = ℕ} 0 1 = cc in omega arith)
 fits-inside v n p (Step.entry x) e k z = let w : e ≡ entry_of x.bit x.pdu = cc in rw w (fits x.bit x.pdu k)
 
-pub null-fits : (v : List ℕ) (n p : ℕ) {a : StepAnswer} {e : BlockEntry} → a ≡ step_answer (step downlink_reader v n p) → a ≡ StepAnswer.Entry e → NullFits e
+pub null-fits : (v : List ℕ) (n p : ℕ) {a : Result (Option BlockEntry) Refusal} {e : BlockEntry} → a ≡ step_answer (step downlink_reader v n p) → a ≡ Ok (Some e) → NullFits e
 null-fits v n p {a} {e} y z = fits-inside v n p (step downlink_reader v n p) e (inside v n p) (sym y ∙ z)
 
 -- ---- the same of every position
@@ -191,10 +190,10 @@ unfolding step_from
 fewer v n p e = rw e (fewer-after v n p _ (leads v n p))
 
 -- so after each step that gives an entry
-pub fewer-entry : (v : List ℕ) (n : ℕ) (x : Position) {w : WalkStep} {e : BlockEntry} → w ≡ step_from v n x → w.answer ≡ StepAnswer.Entry e
+pub fewer-entry : (v : List ℕ) (n : ℕ) (x : Position) {w : WalkStep} {e : BlockEntry} → w ≡ step_from v n x → w.answer ≡ Ok (Some e)
     → steps_left n w.position < steps_left n x
 unfolding step_from
 fewer-entry v n (Position.At p) y z = fewer v n p y
 fewer-entry v n (Position.Ended q) {w} {e} y z =
-    let k : StepAnswer.End ≡ StepAnswer.Entry e = sym (ap (λ (x : WalkStep). x.answer) y) ∙ z in
+    let k : Ok None ≡ Ok (Some e) = sym (ap (λ (x : WalkStep). x.answer) y) ∙ z in
     absurd (let k' : ◌≡◌ {A = ℕ} 0 1 = cc in omega arith)
