@@ -1,7 +1,5 @@
 -- "Whatever bits anybody puts into one PDU of a downlink block, sparing that PDU's type, length and address type", and into several.
-use Rattle.std.specs.Prelude.{◌≡◌, ◌⊎◌, Bool, true, false, List, ℕ, ◌+◌, ◌≤◌, ◌<◌, get_or}
-use Rattle.std.proofs.Math.Option.{some}
-use Rattle.std.proofs.Math.ListN.{get_elem?}
+use Rattle.std.specs.Prelude.{◌≡◌, ◌⊎◌, Bool, true, false, List, ℕ, ◌+◌, ◌≤◌, ◌<◌, get_or, Some, slice_get}
 use Rattle.bits.specs.Bits.{bits_of}
 use Rattle.block_rules.specs.Extent.{Spared}
 use Rattle.block_rules.specs.Codec.{HeaderReader}
@@ -12,7 +10,7 @@ bit_at v i = get_or (bits_of v) i false
 
 -- e is PDU number k of the walk of the n bits in v
 abbrev pub IsPdu : {H : Type 0} → HeaderReader H → ℕ → List ℕ → ℕ → Entry H → Type 0
-IsPdu R n v k e = get_elem? (walk R v n).entries k ≡ some e
+IsPdu R n v k e = slice_get (walk R v n).entries k ≡ Some e
 
 -- the PDU e of v has its spared bits in v' too
 abbrev pub SparedIn : {H : Type 0} → ℕ → List ℕ → List ℕ → Entry H → Type 0

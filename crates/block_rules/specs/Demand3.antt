@@ -1,6 +1,5 @@
 -- Demand 3, said of lent bytes that hold a block of n bits, for every codec of headers.
-use Rattle.std.specs.Prelude.{◌≡◌, ◌⊎◌, Bool, true, false, List, [], ◌∷◌, map, ℕ, ◌+◌, ◌*◌, ◌/◌, ◌≤◌, ◌<◌, eqb, leb, length, get_or}
-use Rattle.std.proofs.Math.ListN.{get_elem?}
+use Rattle.std.specs.Prelude.{◌≡◌, ◌⊎◌, Bool, true, false, List, [], ◌∷◌, map, ℕ, ◌+◌, ◌*◌, ◌/◌, ◌≤◌, ◌<◌, eqb, leb, length, get_or, slice_get}
 use Rattle.bits.specs.Bits.{bits_at, put_bits}
 use Rattle.tetra_core.specs.Refusal.{unless, first}
 use Rattle.block_rules.specs.Numbers.{most_bits, least_bits}
@@ -31,7 +30,7 @@ pub data Covers {H : Type 0} (n : ℕ) : (p : ℕ) → List (Entry H) → (rest_
 pub record Isolated {H : Type 0} (before after : Walk H) (altered : ℕ → Bool) : Type 0 where
   pub count : length after.entries ≡ length before.entries
   pub places : map place after.entries ≡ map place before.entries
-  pub others : (k : ℕ) → altered k ≡ false → get_elem? after.entries k ≡ get_elem? before.entries k
+  pub others : (k : ℕ) → altered k ≡ false → slice_get after.entries k ≡ slice_get before.entries k
   pub rest : after.rest_at ≡ before.rest_at
 
 pub record OfTheWalk {H : Type 0} (R : HeaderReader H) : Type 0 where

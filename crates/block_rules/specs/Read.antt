@@ -1,6 +1,5 @@
 -- One PDU, read from its own bits. Document 01, "Block".
-use Rattle.std.specs.Prelude.{Bool, true, false, List, [], ◌∷◌, ℕ, ◌-◌, length, take, drop}
-use Rattle.std.proofs.Math.Option.{Option, none, some}
+use Rattle.std.specs.Prelude.{Bool, true, false, List, [], ◌∷◌, ℕ, ◌-◌, length, take, drop, Option, Some, None}
 use Rattle.codec.specs.Reader.{Out}
 use Rattle.block_rules.specs.Codec.{HeaderReader}
 
@@ -11,12 +10,12 @@ pub data Reading (H : Type 0) : Type 0 where
 
 -- the bits before the last 1, if there is a 1: x is one of them where a 1 follows, and is itself the last 1 or behind it where none does
 unfoldable pub extend : Bool → Option (List Bool) → Option (List Bool)
-extend x (some ys) = some (x ∷ ys)
-extend true none = some []
-extend false none = none
+extend x (Some ys) = Some (x ∷ ys)
+extend true None = Some []
+extend false None = None
 
 unfoldable pub before_last_one : List Bool → Option (List Bool)
-before_last_one [] = none
+before_last_one [] = None
 before_last_one (x ∷ xs) = extend x (before_last_one xs)
 
 module _ {H : Type 0} where
@@ -25,8 +24,8 @@ module _ {H : Type 0} where
   behind_header h n false bits = Reading.read h n bits 0
   behind_header h n true bits =
       elim (before_last_one bits) [
-        | some c ↦ Reading.read h n c (length bits - length c)
-        | none ↦ Reading.refused 12 n
+        | Some c ↦ Reading.read h n c (length bits - length c)
+        | None ↦ Reading.refused 12 n
       ]
 
   -- a PDU, by its bits

@@ -1,6 +1,5 @@
 -- The block, read: one entry a step, and the walk, "all steps from bit 0 to the end, each from the last one's PDU end".
-use Rattle.std.specs.Prelude.{Bool, cond, ◌&&◌, List, [], ◌∷◌, ◌++◌, ℕ, zero, suc, ◌+◌, ◌-◌, ◌*◌, leb, length, drop}
-use Rattle.std.proofs.Math.Option.{Option, none, some}
+use Rattle.std.specs.Prelude.{Bool, cond, ◌&&◌, List, [], ◌∷◌, ◌++◌, ℕ, zero, suc, ◌+◌, ◌-◌, ◌*◌, leb, length, drop, Option, Some, None}
 use Rattle.bits.specs.Bits.{bits_at}
 use Rattle.block_rules.specs.declared.extent.Extent.{Extent}
 use Rattle.block_rules.specs.Numbers.{most_bits, least_bits}
@@ -27,9 +26,9 @@ pub record Entry (H : Type 0) : Type 0 where
 
 module _ {H : Type 0} where
   unfoldable pub end_from : ℕ → Pdu H → Option ℕ
-  end_from p (Pdu.null l) = some (p + least_bits)
-  end_from p (Pdu.sized s r) = some (p + s)
-  end_from p (Pdu.unsized j o) = none
+  end_from p (Pdu.null l) = Some (p + least_bits)
+  end_from p (Pdu.sized s r) = Some (p + s)
+  end_from p (Pdu.unsized j o) = None
 
   -- "Place is .. the bit, and the end where there is one"
   unfoldable pub place : Entry H → ℕ × Option ℕ
@@ -58,15 +57,15 @@ pub data Step (H : Type 0) : Type 0 where
 
 module _ {H : Type 0} where
   unfoldable pub step_of : ℕ → Option (Pdu H) → Step H
-  step_of p none = Step.end
-  step_of p (some x) = Step.entry (record { bit = p; pdu = x })
+  step_of p None = Step.end
+  step_of p (Some x) = Step.entry (record { bit = p; pdu = x })
 
   module _ (R : HeaderReader H) where
     unfoldable pub pdu_of : List Bool → Extent → Option (Pdu H)
-    pdu_of bits Extent.End = none
-    pdu_of bits (Extent.Unsized j o) = some (Pdu.unsized j o)
-    pdu_of bits (Extent.Null l) = some (Pdu.null l)
-    pdu_of bits (Extent.Sized s) = some (Pdu.sized s (read_pdu R bits s))
+    pdu_of bits Extent.End = None
+    pdu_of bits (Extent.Unsized j o) = Some (Pdu.unsized j o)
+    pdu_of bits (Extent.Null l) = Some (Pdu.null l)
+    pdu_of bits (Extent.Sized s) = Some (Pdu.sized s (read_pdu R bits s))
 
     -- the PDU that begins these bits, of which the last is the block's
     unfoldable pub first_pdu : List Bool → Option (Pdu H)

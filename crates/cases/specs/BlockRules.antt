@@ -1,7 +1,6 @@
 -- The rules of document 01's "Block" at their edges, in the form of specs/Cases.antt: a row for each rule, with the sentence that it holds.
 -- docs/TRUST.md says which wrong definitions each row refuses. `proofs/Cases.antt` computes every row.
 use Rattle.std.specs.Prelude.{◌⊎◌, Bool, true, false, List, [], ◌∷◌, ◌++◌, map, ℕ, ◌≤◌, ◌<◌, replicate, Err, None, Option, Some, Ok}
-use Rattle.std.proofs.Math.Option.{none, some}
 use Rattle.tetra_core.specs.declared.address.SsiType.{SsiType}
 use Rattle.tetra_core.specs.declared.address.DownlinkAddress.{DownlinkAddress}
 use Rattle.channel_allocation.specs.declared.enums.ul_dl_assignment.UlDlAssignment.{UlDlAssignment}
@@ -196,7 +195,7 @@ directions =
 abbrev pub places : Row
 places =
     check (Answer.Places (map place (first ∷ entry 48 (Pdu.null 63) ∷ entry 48 (Pdu.unsized 4 0) ∷ [])))
-    (Answer.Places ((0, some 48) ∷ (48, some 64) ∷ (48, none) ∷ []))
+    (Answer.Places ((0, Some 48) ∷ (48, Some 64) ∷ (48, None) ∷ []))
     ∷ []
 
 abbrev pub block_rules : List Row

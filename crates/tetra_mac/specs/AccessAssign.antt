@@ -1,8 +1,7 @@
 -- The ACCESS-ASSIGN as a record of 5 words: header 0 to 3; field one: a, b; field two: a, b. An access field is access code 0 to 3 and base frame
 -- length code 0 to 15; a downlink usage is kind (0 Unallocated, 1 AssignedControl, 2 CommonControl, 3 CommonAndAssigned, 4 Traffic) and traffic
 -- number; an uplink usage is kind (0 CommonOnly, 1 CommonAndAssigned, 2 AssignedOnly, 3 Unallocated, 4 Traffic) and traffic number.
-use Rattle.std.specs.Prelude.{ℕ, min, List, [], ◌∷◌, ◌++◌, Bool, false, cond, ◌&&◌, length, get_or, eqb, leb, ltb, Err, Ok, Result}
-use Rattle.std.proofs.Math.Option.{Option}
+use Rattle.std.specs.Prelude.{ℕ, min, List, [], ◌∷◌, ◌++◌, Bool, false, cond, ◌&&◌, length, get_or, eqb, leb, ltb, Err, Ok, Result, Option}
 use Rattle.tetra_core.specs.declared.bitbuffer.Cursor.{Cursor}
 use Rattle.tetra_core.specs.declared.refusal.Refusal.{Refusal}
 use Rattle.access_assign.specs.AccessField.{access_code_number, access_code_of, base_frame_length_number, base_frame_length_of}

@@ -1,7 +1,6 @@
 -- The channel allocation as a record of 9 words: allocation type 0 to 3; timeslots as 4 bits (slot 1 is 8); direction 0 to 3; CLCH permission;
 -- cell change; carrier; monitoring pattern; frame-18 pattern present; frame-18 pattern.
 use Rattle.std.specs.Prelude.{ℕ, min, List, [], ◌∷◌, Bool, cond, ◌&&◌, length, eqb, leb, Err, None, Ok, Option, Result, Some}
-use Rattle.std.proofs.Math.Option.{Option}
 use Rattle.bits.specs.Bits.{digit}
 use Rattle.tetra_core.specs.declared.bitbuffer.Cursor.{Cursor}
 use Rattle.tetra_core.specs.declared.quantity.Bits.{Bits}

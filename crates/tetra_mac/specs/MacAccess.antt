@@ -1,7 +1,6 @@
 -- The MAC-ACCESS as a record of 8 words: fill bits, encrypted, address type 0 to 3, SSI kind, address number, option (0 none, 1 length, 2
 -- capacity request), length or fragment flag, reservation code 0 to 15.
-use Rattle.std.specs.Prelude.{ℕ, min, List, [], ◌∷◌, Bool, true, false, ◌&&◌, length, get_or, leb, ltb, Err, Ok, Result}
-use Rattle.std.proofs.Math.Option.{Option}
+use Rattle.std.specs.Prelude.{ℕ, min, List, [], ◌∷◌, Bool, true, false, ◌&&◌, length, get_or, leb, ltb, Err, Ok, Result, Option}
 use Rattle.tetra_core.specs.Address.{uplink_address_type}
 use Rattle.bits.specs.Bits.{digit}
 use Rattle.tetra_core.specs.declared.bitbuffer.Cursor.{Cursor}

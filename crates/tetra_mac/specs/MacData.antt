@@ -1,6 +1,5 @@
 -- The MAC-DATA as a record of 8 words: that of a MAC-ACCESS with the same address and option, which is 1 or 2.
-use Rattle.std.specs.Prelude.{ℕ, List, Bool, ◌&&◌, Err, Ok, Result}
-use Rattle.std.proofs.Math.Option.{Option}
+use Rattle.std.specs.Prelude.{ℕ, List, Bool, ◌&&◌, Err, Ok, Result, Option}
 use Rattle.tetra_core.specs.declared.bitbuffer.Cursor.{Cursor}
 use Rattle.tetra_core.specs.declared.refusal.Refusal.{Refusal}
 use Rattle.codec.specs.Cases.{flag}

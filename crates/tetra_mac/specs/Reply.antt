@@ -1,7 +1,6 @@
 -- What a call of the interface returns, and the words that it leaves in out. A flag is 0 where it is false and any other number where it is
 -- true, and is read back as 0 or 1.
-use Rattle.std.specs.Prelude.{ℕ, ◌+◌, ◌*◌, List, [], ◌∷◌, Bool, cond, length, get_or, leb, Err, Ok, Result}
-use Rattle.std.proofs.Math.Option.{Option, none, some}
+use Rattle.std.specs.Prelude.{ℕ, ◌+◌, ◌*◌, List, [], ◌∷◌, Bool, cond, length, get_or, leb, Err, Ok, Result, Option, Some, None}
 use Rattle.std.proofs.lemmas.List.Edits.{sets}
 use Rattle.tetra_core.specs.declared.bitbuffer.Cursor.{Cursor}
 use Rattle.tetra_core.specs.declared.bitbuffer.Moved.{Moved}
@@ -64,14 +63,14 @@ read_reply reply n at answer out = cond (leb n (length out)) (reply out at answe
 
 -- a value, if its words are known
 unfoldable pub value_if : {A : Type 0} → Bool → A → Option A
-value_if known v = cond known (some v) none
+value_if known v = cond known (Some v) None
 
 abbrev pub with_bytes : Reply → List ℕ → WriteReply
 with_bytes r bytes = wrote r.status r.out bytes
 
 unfoldable pub write_reply : {A : Type 0} → (A → Moved) → (A → List ℕ) → List ℕ → Option A → List ℕ → WriteReply
-write_reply write written s none out = wrote malformed out s
-write_reply write written s (some v) out = cond (leb 1 (length out)) (with_bytes (moved_reply out (write v)) (written v)) (wrote malformed out s)
+write_reply write written s None out = wrote malformed out s
+write_reply write written s (Some v) out = cond (leb 1 (length out)) (with_bytes (moved_reply out (write v)) (written v)) (wrote malformed out s)
 
 -- ---- a call that counts the bits of a record's value, if it has one, and needs n words in out
 
@@ -79,8 +78,8 @@ abbrev pub counted_reply : List ℕ → List ℕ → Reply
 counted_reply out ws = replied 0 (put_first out ws)
 
 unfoldable pub record_reply : {A : Type 0} → (A → Reply) → ℕ → Option A → List ℕ → Reply
-record_reply reply n none out = replied malformed out
-record_reply reply n (some v) out = cond (leb n (length out)) (reply v) (replied malformed out)
+record_reply reply n None out = replied malformed out
+record_reply reply n (Some v) out = cond (leb n (length out)) (reply v) (replied malformed out)
 
 -- the word i of a record
 abbrev pub word : List ℕ → ℕ → ℕ

@@ -1,7 +1,6 @@
 -- The slot grant as a record of 3 words: capacity code 0 to 15; delay kind (0 next opportunity, 1 count, 2 frame 18, 3 wait); delay count
 -- (only for kind 1, read as 0 otherwise).
-use Rattle.std.specs.Prelude.{ℕ, min, List, [], ◌∷◌, Bool, ◌&&◌, length, get_or, leb, Err, Ok, Result}
-use Rattle.std.proofs.Math.Option.{Option}
+use Rattle.std.specs.Prelude.{ℕ, min, List, [], ◌∷◌, Bool, ◌&&◌, length, get_or, leb, Err, Ok, Result, Option}
 use Rattle.tetra_core.specs.declared.bitbuffer.Cursor.{Cursor}
 use Rattle.tetra_core.specs.declared.refusal.Refusal.{Refusal}
 use Rattle.tetra_fields.specs.BasicSlotgrant.{cap_alloc_number, cap_alloc_of, slotgrant_at, slotgrant_write, slotgrant_written}

@@ -1,13 +1,13 @@
 -- Altered PDUs of a block in lent bytes.
-use Rattle.std.specs.Prelude.{◌≡◌, refl, Bool, true, false, List, ℕ, ◌+◌, ◌*◌, ◌≤◌, ◌<◌, eqb, drop}
+use Rattle.std.proofs.lemmas.Option.{same_Some}
+use Rattle.std.specs.Prelude.{◌≡◌, refl, Bool, true, false, List, ℕ, ◌+◌, ◌*◌, ◌≤◌, ◌<◌, eqb, drop, Option, Some, None, slice_get}
 use Rattle.std.proofs.Math.Path.{sym, ap}
 use Rattle.std.proofs.Common.{◌∙◌, subst, eqb-true}
 use Rattle.std.proofs.Math.Logic.{inl, inr}
-use Rattle.std.proofs.Math.Option.{Option, none, some, some-injective}
 use native.Mathlib.Omega.{arith}
 use Rattle.std.proofs.Math.Decide.{dec_lt}
 use Rattle.std.proofs.lemmas.Bool.{eqb-false}
-use Rattle.std.proofs.Math.ListN.{length, get_or, get_elem?}
+use Rattle.std.proofs.Math.ListN.{length, get_or}
 use Rattle.std.proofs.lemmas.List.{length-map}
 use Rattle.bits.specs.Bits.{put_bits}
 use Rattle.bits.proofs.Laws.Writes.{bits_at_put_bits}
@@ -60,10 +60,10 @@ module _ {H : Type 0} (R : HeaderReader H) where
       same_count : length (walk R v' n).entries ≡ length (walk R v n).entries
       same_count = sym (length-map (walk R v' n).entries place) ∙ ap length walks-alike.places ∙ length-map (walk R v n).entries place
 
-      other : (k : ℕ) → altered k ≡ false → (o : Option (Entry H)) → get_elem? (walk R v n).entries k ≡ o
-          → get_elem? (walk R v' n).entries k ≡ o
-      other k t none x = none-same (walk R v n).entries (walk R v' n).entries k same_count x
-      other k t (some e) x =
+      other : (k : ℕ) → altered k ≡ false → (o : Option (Entry H)) → slice_get (walk R v n).entries k ≡ o
+          → slice_get (walk R v' n).entries k ≡ o
+      other k t None x = none-same (walk R v n).entries (walk R v' n).entries k same_count x
+      other k t (Some e) x =
           walks-alike.same k e x
           (sym (own_block holds' e (lies n (covers R n v holds) k e x).within) ∙ a.others k e x t ∙ own_is R n v holds k e x)
 
@@ -71,7 +71,7 @@ module _ {H : Type 0} (R : HeaderReader H) where
       several = record {
         count = same_count;
         places = walks-alike.places;
-        others = λ k t. other k t (get_elem? (walk R v n).entries k) refl;
+        others = λ k t. other k t (slice_get (walk R v n).entries k) refl;
         rest = walks-alike.rest;
       }
 
@@ -95,7 +95,7 @@ module _ {H : Type 0} (R : HeaderReader H) where
           behind h i lo = omega (arith, apart n (covers R n v holds) k j e d (omega (arith, ne)) a.pdu x)
 
       same-pdu : (j : ℕ) (d : Entry H) → IsPdu R n v j d → k ≡ j → e ≡ d
-      same-pdu j d x t = some-injective e d (sym a.pdu ∙ ap (get_elem? (walk R v n).entries) t ∙ x)
+      same-pdu j d x t = same_Some e d (sym a.pdu ∙ ap (slice_get (walk R v n).entries) t ∙ x)
 
       as_several : Altered R n v v' (eqb k)
       as_several = record {

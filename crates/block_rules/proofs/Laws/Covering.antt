@@ -1,34 +1,33 @@
 -- What a cover of a block says of its entries: each lies in the block, and one behind the other.
-use Rattle.std.specs.Prelude.{◌≡◌, refl, length}
+use Rattle.std.proofs.lemmas.Option.{same_Some, none-some}
+use Rattle.std.specs.Prelude.{◌≡◌, refl, length, Some, None, slice_get}
 use Rattle.std.proofs.Common.{sym}
 use Rattle.std.proofs.Math.Path.{subst}
-use Rattle.std.proofs.Math.Option.{none, some, none-ne-some, some-injective}
 use mathlib.Core.List.{List, [], ◌∷◌}
 use Prim.Native.Nat.{ℕ, zero, suc, ◌+◌, ◌*◌, ◌≤◌, ◌<◌}
 use Rattle.std.proofs.Math.Nat.{le_refl, suc_inj}
 use native.Mathlib.Omega.{arith}
-use Rattle.std.proofs.Math.ListN.{get_elem?}
 use Rattle.block_rules.specs.Numbers.{least_bits}
 use Rattle.block_rules.specs.Walk.{Entry, own_size, size_in}
 use Rattle.block_rules.specs.Demand3.{Covers}
 
 -- every entry of a list
 abbrev pub Each : {A : Type 0} → (A → Type 0) → List A → Type 0
-Each P xs = (k : ℕ) (x : _) → get_elem? xs k ≡ some x → P x
+Each P xs = (k : ℕ) (x : _) → slice_get xs k ≡ Some x → P x
 
 pub each_nil : {A : Type 0} (P : A → Type 0) → Each P []
-each_nil P k x e = absurd (none-ne-some x e)
+each_nil P k x e = absurd (none-some x e)
 
 pub each_cons : {A : Type 0} (P : A → Type 0) (a : A) (xs : List A) → P a → Each P xs → Each P (a ∷ xs)
-each_cons P a xs p ps zero x e = subst P (some-injective a x e) p
+each_cons P a xs p ps zero x e = subst P (same_Some a x e) p
 each_cons P a xs p ps (suc k) x e = ps k x e
 
 -- lists of one length end at one place
-pub none-same : {A : Type 0} (xs ys : List A) (k : ℕ) → length ys ≡ length xs → get_elem? xs k ≡ none → get_elem? ys k ≡ none
+pub none-same : {A : Type 0} (xs ys : List A) (k : ℕ) → length ys ≡ length xs → slice_get xs k ≡ None → slice_get ys k ≡ None
 none-same [] [] k e x = refl
 none-same [] (y ∷ ys) k e x = absurd (omega arith)
 none-same (x ∷ xs) [] k e h = refl
-none-same (x ∷ xs) (y ∷ ys) zero e h = absurd (none-ne-some x (sym h))
+none-same (x ∷ xs) (y ∷ ys) zero e h = absurd (none-some x (sym h))
 none-same (x ∷ xs) (y ∷ ys) (suc k) e h = none-same xs ys k (suc_inj e) h
 
 -- a PDU at bit p or behind has 16 bits or more and ends in a block of n bits
@@ -55,14 +54,14 @@ module _ {H : Type 0} (n : ℕ) where
 
   -- each PDU begins where one before it ends, or behind
   pub apart : {p r : ℕ} {es : List (Entry H)} → Covers n p es r → (j k : ℕ) (d e : Entry H) → j < k
-      → get_elem? es j ≡ some d → get_elem? es k ≡ some e → d.bit + size_in n d ≤ e.bit
+      → slice_get es j ≡ Some d → slice_get es k ≡ Some e → d.bit + size_in n d ≤ e.bit
   unfolding own_size
   apart c j zero d e h x y = absurd (omega arith)
-  apart (Covers.end _ _) j (suc k) d e h x y = absurd (none-ne-some e y)
-  apart (Covers.null _) j (suc k) d e h x y = absurd (none-ne-some e y)
-  apart (Covers.unsized _) j (suc k) d e h x y = absurd (none-ne-some e y)
+  apart (Covers.end _ _) j (suc k) d e h x y = absurd (none-some e y)
+  apart (Covers.null _) j (suc k) d e h x y = absurd (none-some e y)
+  apart (Covers.unsized _) j (suc k) d e h x y = absurd (none-some e y)
   apart (Covers.sized _ c) zero (suc k) d e h x y =
-      subst (λ a. a.bit + size_in n a ≤ e.bit) (some-injective _ d x) (lies c k e y).behind
+      subst (λ a. a.bit + size_in n a ≤ e.bit) (same_Some _ d x) (lies c k e y).behind
   apart {p = p} (Covers.sized {s = s} _ c) (suc j) (suc k) d e h x y = apart {p = p + s} c j k d e (omega arith) x y
 
   -- a walk has at most one entry for each 16 bits

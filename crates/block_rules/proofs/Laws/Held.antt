@@ -1,9 +1,9 @@
 -- The walk of a block in lent bytes.
-use Rattle.std.specs.Prelude.{◌≡◌, Bool, List, ℕ, ◌+◌, ◌-◌, ◌/◌, ◌≤◌, length, drop}
+use Rattle.std.proofs.lemmas.Option.{same_Some}
+use Rattle.std.specs.Prelude.{◌≡◌, Bool, List, ℕ, ◌+◌, ◌-◌, ◌/◌, ◌≤◌, length, drop, Some, slice_get}
 use Rattle.std.proofs.Math.Path.{sym, ap, fun_ext, subst}
 use Rattle.std.proofs.Common.{ap₂, ◌∙◌, arith}
-use Rattle.std.proofs.Math.Option.{some, some-injective}
-use Rattle.std.proofs.Math.ListN.{take, get_elem?}
+use Rattle.std.proofs.Math.ListN.{take}
 use Rattle.bits.specs.Bits.{bits_at}
 use Rattle.block_rules.specs.Numbers.{least_bits}
 use Rattle.block_rules.specs.Codec.{HeaderReader, Inside}
@@ -28,7 +28,7 @@ module _ {H : Type 0} (R : HeaderReader H) where
     unfolding walk
     walk_is = walk_block holds R 0
 
-    pdu_in : (k : ℕ) (e : Entry H) → IsPdu R n v k e → get_elem? (from R (block n v) 0).entries k ≡ some e
+    pdu_in : (k : ℕ) (e : Entry H) → IsPdu R n v k e → slice_get (from R (block n v) 0).entries k ≡ Some e
     pdu_in k e x = rw walk_is at x
 
     pub covers : Covers n 0 (walk R v n).entries (walk R v n).rest_at
@@ -41,7 +41,7 @@ module _ {H : Type 0} (R : HeaderReader H) where
     own_is k e x = own_block holds e (lies n covers k e x).within
 
     -- what an entry says of its PDU, from the PDU's bits
-    read-alone : (k : ℕ) (e : Entry H) → IsPdu R n v k e → first_pdu R (own_bits n v e) ≡ some e.pdu
+    read-alone : (k : ℕ) (e : Entry H) → IsPdu R n v k e → first_pdu R (own_bits n v e) ≡ Some e.pdu
     unfolding Alone
     read-alone k e x = rw (own_is k e x) (alone R (block n v) 0 (omega arith) k e (pdu_in k e x))
 
@@ -61,4 +61,4 @@ module _ {H : Type 0} (R : HeaderReader H) where
   pub own_bits-alone : (n n' : ℕ) (v v' : List ℕ) → IsBlock n v → IsBlock n' v'
       → (k k' : ℕ) (e e' : Entry H) → IsPdu R n v k e → IsPdu R n' v' k' e' → own_bits n v e ≡ own_bits n' v' e' → e.pdu ≡ e'.pdu
   own_bits-alone n n' v v' holds holds' k k' e e' x x' same =
-      some-injective e.pdu e'.pdu (sym (read-alone n v holds k e x) ∙ ap (first_pdu R) same ∙ read-alone n' v' holds' k' e' x')
+      same_Some e.pdu e'.pdu (sym (read-alone n v holds k e x) ∙ ap (first_pdu R) same ∙ read-alone n' v' holds' k' e' x')

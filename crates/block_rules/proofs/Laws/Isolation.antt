@@ -1,11 +1,10 @@
 -- Altered PDUs, in lists of bits: two blocks of one length that agree in the spared bits of each PDU have walks alike.
-use Rattle.std.specs.Prelude.{◌≡◌, refl, ℕ, zero, suc, ◌+◌, ◌≤◌, length, get_or, take, drop}
+use Rattle.std.proofs.lemmas.Option.{same_Some}
+use Rattle.std.specs.Prelude.{◌≡◌, refl, ℕ, zero, suc, ◌+◌, ◌≤◌, length, get_or, take, drop, Some, slice_get}
 use Rattle.std.proofs.Math.Path.{sym, ap}
 use Rattle.std.proofs.Common.{◌∙◌, subst, arith, length-drop}
 use Rattle.std.proofs.Math.Bool.{Bool, false}
-use Rattle.std.proofs.Math.Option.{some, some-injective}
 use mathlib.Core.List.{List, ◌∷◌, map}
-use Rattle.std.proofs.Math.ListN.{get_elem?}
 use Rattle.std.proofs.Math.Seq.{get_or-drop}
 use Rattle.block_rules.specs.declared.extent.Extent.{Extent}
 use Rattle.block_rules.specs.Extent.{extent, Spared}
@@ -26,7 +25,7 @@ module _ {H : Type 0} (b b' : List Bool) where
   pub record Alike (w w' : Walk H) : Type 0 where
     pub places : map place w'.entries ≡ map place w.entries
     pub rest : w'.rest_at ≡ w.rest_at
-    pub same : (k : ℕ) (e : Entry H) → get_elem? w.entries k ≡ some e → own_in b' e ≡ own_in b e → get_elem? w'.entries k ≡ some e
+    pub same : (k : ℕ) (e : Entry H) → slice_get w.entries k ≡ Some e → own_in b' e ≡ own_in b e → slice_get w'.entries k ≡ Some e
 
   alike_same : (w w' : Walk H) → w' ≡ w → Alike w w'
   alike_same w w' e = rw e (record { places = refl; rest = refl; same = λ k e x _. x })
@@ -45,17 +44,17 @@ module _ {H : Type 0} (R : HeaderReader H) (b b' : List Bool) (len : length b' �
   alike-sized : (p s : ℕ) → Alike b b' (from R b (p + s)) (from R b' (p + s))
       → Alike b b' (entry_at R b p (Pdu.sized s (read_pdu R (drop p b) s))) (entry_at R b' p (Pdu.sized s (read_pdu R (drop p b') s)))
   unfolding place end_from own_size read_pdu go_on
-  alike-sized p s a = record { places = ap (λ l. (p, some (p + s)) ∷ l) a.places; rest = a.rest; same = go }
+  alike-sized p s a = record { places = ap (λ l. (p, Some (p + s)) ∷ l) a.places; rest = a.rest; same = go }
     where
       head : List Bool → Entry H
       head own = record { bit = p; pdu = Pdu.sized s (read_own R own) }
 
-      go : (k : ℕ) (e : Entry H) → get_elem? (head (take s (drop p b)) ∷ (from R b (p + s)).entries) k ≡ some e → own_in b' e ≡ own_in b e
-          → get_elem? (head (take s (drop p b')) ∷ (from R b' (p + s)).entries) k ≡ some e
+      go : (k : ℕ) (e : Entry H) → slice_get (head (take s (drop p b)) ∷ (from R b (p + s)).entries) k ≡ Some e → own_in b' e ≡ own_in b e
+          → slice_get (head (take s (drop p b')) ∷ (from R b' (p + s)).entries) k ≡ Some e
       go zero e x y =
-          let z : head (take s (drop p b)) ≡ e = some-injective _ e x in
+          let z : head (take s (drop p b)) ≡ e = same_Some _ e x in
           let w : take s (drop p b') ≡ take s (drop p b) = subst (λ d. own_in b' d ≡ own_in b d) (sym z) y in
-          ap (λ own. some (head own)) w ∙ x
+          ap (λ own. Some (head own)) w ∙ x
       go (suc k) e x y = a.same k e x y
 
   pub alike : (p : ℕ) → p ≤ length b → Kept (from R b p) → Alike b b' (from R b p) (from R b' p)

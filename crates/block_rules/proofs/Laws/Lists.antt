@@ -1,8 +1,7 @@
 -- Parts and fields of lists of bits, and the fill at the end of one.
-use Rattle.std.specs.Prelude.{◌≡◌, refl, Bool, true, false, cond, List, [], ◌∷◌, ◌++◌, ℕ, zero, suc, ◌+◌, ◌≤◌, ◌<◌, length, get_or, take, drop, replicate}
+use Rattle.std.specs.Prelude.{◌≡◌, refl, Bool, true, false, cond, List, [], ◌∷◌, ◌++◌, ℕ, zero, suc, ◌+◌, ◌≤◌, ◌<◌, length, get_or, take, drop, replicate, Option, Some, None}
 use Rattle.std.proofs.Common.{sym, ◌∙◌, append-nil, arith, length-take, length-drop, ext_get_or, get_or-take, get_or-drop}
 use Rattle.std.proofs.Math.Path.{ap}
-use Rattle.std.proofs.Math.Option.{Option, none, some}
 use Rattle.std.proofs.lemmas.List.{length-replicate}
 use Rattle.std.proofs.Math.Seq.{take-append_seam}
 use Rattle.bits.specs.Bits.{val}
@@ -48,41 +47,41 @@ unfolding fill_bits
 length-fill zero = refl
 length-fill (suc n) = ap suc (length-replicate n false)
 
-pub no_one : (n : ℕ) → before_last_one (replicate n false) ≡ none
+pub no_one : (n : ℕ) → before_last_one (replicate n false) ≡ None
 unfolding before_last_one extend
 no_one zero = refl
 no_one (suc n) = rw (no_one n)
 
 -- the last 1 of two lists is the second one's, or where that has none the first one's
-pub before-none : (xs ys : List Bool) → before_last_one ys ≡ none → before_last_one (xs ++ ys) ≡ before_last_one xs
+pub before-none : (xs ys : List Bool) → before_last_one ys ≡ None → before_last_one (xs ++ ys) ≡ before_last_one xs
 unfolding before_last_one
 before-none [] ys e = e
 before-none (x ∷ xs) ys e = rw (before-none xs ys e)
 
-pub before-some : (xs ys c : List Bool) → before_last_one ys ≡ some c → before_last_one (xs ++ ys) ≡ some (xs ++ c)
+pub before-some : (xs ys c : List Bool) → before_last_one ys ≡ Some c → before_last_one (xs ++ ys) ≡ Some (xs ++ c)
 unfolding before_last_one extend
 before-some [] ys c e = e
 before-some (x ∷ xs) ys c e = rw (before-some xs ys c e)
 
-pub before-fill : (c : List Bool) (n : ℕ) → before_last_one (c ++ (true ∷ replicate n false)) ≡ some c
-before-fill c n = before-some c (true ∷ replicate n false) [] (unfold before_last_one extend in rw (no_one n)) ∙ ap some (append-nil c)
+pub before-fill : (c : List Bool) (n : ℕ) → before_last_one (c ++ (true ∷ replicate n false)) ≡ Some c
+before-fill c n = before-some c (true ∷ replicate n false) [] (unfold before_last_one extend in rw (no_one n)) ∙ ap Some (append-nil c)
 
 -- what stands before the last 1 is what the list starts with
 StartsWith : List Bool → Option (List Bool) → Type 0
-StartsWith bits none = Unit {0}
-StartsWith bits (some c) = (length c ≤ length bits) × (take (length c) bits ≡ c)
+StartsWith bits None = Unit {0}
+StartsWith bits (Some c) = (length c ≤ length bits) × (take (length c) bits ≡ c)
 
 starts_extend : (x : Bool) (xs : List Bool) (o : Option (List Bool)) → StartsWith xs o → StartsWith (x ∷ xs) (extend x o)
 unfolding StartsWith extend
-starts_extend x xs (some c) f = (omega (arith, f.0), ap (λ l. x ∷ l) f.1)
-starts_extend true xs none f = (omega arith, refl)
-starts_extend false xs none f = tt
+starts_extend x xs (Some c) f = (omega (arith, f.0), ap (λ l. x ∷ l) f.1)
+starts_extend true xs None f = (omega arith, refl)
+starts_extend false xs None f = tt
 
 starts_of : (bits : List Bool) → StartsWith bits (before_last_one bits)
 unfolding StartsWith before_last_one
 starts_of [] = tt
 starts_of (x ∷ xs) = starts_extend x xs (before_last_one xs) (starts_of xs)
 
-pub before_starts : (bits c : List Bool) → before_last_one bits ≡ some c → (length c ≤ length bits) × (take (length c) bits ≡ c)
+pub before_starts : (bits c : List Bool) → before_last_one bits ≡ Some c → (length c ≤ length bits) × (take (length c) bits ≡ c)
 unfolding StartsWith
 before_starts bits c e = rw e at (starts_of bits)

@@ -1,9 +1,8 @@
 -- Own bits alone: what an entry says of its PDU is what the PDU's bits say, with no other bit in sight.
-use Rattle.std.specs.Prelude.{◌≡◌, Bool, ℕ, ◌+◌, ◌≤◌, take, drop}
+use Rattle.std.specs.Prelude.{◌≡◌, Bool, ℕ, ◌+◌, ◌≤◌, take, drop, Option, Some, None}
 use Rattle.std.proofs.Math.Path.{refl, ap}
 use Rattle.std.proofs.Common.{◌∙◌, le_refl, arith, take-take}
 use Rattle.std.proofs.Math.Bool.{true, false}
-use Rattle.std.proofs.Math.Option.{Option, none, some}
 use mathlib.Core.List.{List, []}
 use Rattle.std.proofs.Math.ListN.{length, length-drop}
 use Rattle.std.proofs.Math.Seq.{take-length, length-take-le}
@@ -28,23 +27,23 @@ module _ {H : Type 0} (R : HeaderReader H) where
   unfolding first_pdu
   first_by bits f e = ap (pdu_of R bits) e
 
-  first-null : (bits : List Bool) (l : ℕ) → extent bits ≡ Extent.Null l → first_pdu R (take least_bits bits) ≡ some (Pdu.null l)
+  first-null : (bits : List Bool) (l : ℕ) → extent bits ≡ Extent.Null l → first_pdu R (take least_bits bits) ≡ Some (Pdu.null l)
   unfolding pdu_of
   first-null bits l e = first_by (take least_bits bits) (Extent.Null l) (extent-null bits l e)
 
-  first-unsized : (bits : List Bool) (j o : ℕ) → extent bits ≡ Extent.Unsized j o → first_pdu R (take (length bits) bits) ≡ some (Pdu.unsized j o)
+  first-unsized : (bits : List Bool) (j o : ℕ) → extent bits ≡ Extent.Unsized j o → first_pdu R (take (length bits) bits) ≡ Some (Pdu.unsized j o)
   unfolding pdu_of
   first-unsized bits j o e = rw (take-length bits) (first_by bits (Extent.Unsized j o) e)
 
-  first-sized : (bits : List Bool) (s : ℕ) → extent bits ≡ Extent.Sized s → first_pdu R (take s bits) ≡ some (Pdu.sized s (read_pdu R bits s))
+  first-sized : (bits : List Bool) (s : ℕ) → extent bits ≡ Extent.Sized s → first_pdu R (take s bits) ≡ Some (Pdu.sized s (read_pdu R bits s))
   unfolding pdu_of read_pdu
   first-sized bits s e =
-      first_by (take s bits) (Extent.Sized s) (extent-sized bits s e) ∙ ap (λ w. some (Pdu.sized s (read_own R w))) (take-take s s bits (le_refl s))
+      first_by (take s bits) (Extent.Sized s) (extent-sized bits s e) ∙ ap (λ w. Some (Pdu.sized s (read_own R w))) (take-take s s bits (le_refl s))
 
   module _ (b : List Bool) where
     -- the PDU's bits alone give what the entry says
     unfoldable pub Alone : Entry H → Type 0
-    Alone e = first_pdu R (own_in b e) ≡ some e.pdu
+    Alone e = first_pdu R (own_in b e) ≡ Some e.pdu
 
     pub alone : (p : ℕ) → p ≤ length b → Each Alone (from R b p).entries
     unfolding Alone own_size go_on
@@ -74,8 +73,8 @@ module _ {H : Type 0} where
   parts-behind bits h m true k = go (before_last_one (drop m bits)) refl
     where
       go : (o : Option (List Bool)) → before_last_one (drop m bits) ≡ o → Parts (length bits) bits (behind_header h m true (drop m bits))
-      go (some c) e = let x = before_starts (drop m bits) c e in rw (e, behind_header) (omega (arith, x.0, length-drop m bits), x.1)
-      go none e = rw (e, behind_header) tt
+      go (Some c) e = let x = before_starts (drop m bits) c e in rw (e, behind_header) (omega (arith, x.0, length-drop m bits), x.1)
+      go None e = rw (e, behind_header) tt
 
   module _ (R : HeaderReader H) (inside : Inside R) where
     parts-read : (bits : List Bool) → Parts (length bits) bits (read_own R bits)

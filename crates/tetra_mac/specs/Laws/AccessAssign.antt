@@ -1,6 +1,5 @@
 -- The ACCESS-ASSIGN's words give it back, and its refusals have a bit that fits a status.
-use Rattle.std.specs.Prelude.{ℕ, ◌≤◌, ◌≡◌, refl, List, true, length, ltb, Err, Ok, Result}
-use Rattle.std.proofs.Math.Option.{some}
+use Rattle.std.specs.Prelude.{ℕ, ◌≤◌, ◌≡◌, refl, List, true, length, ltb, Err, Ok, Result, Some}
 use Rattle.std.proofs.Common.{arith}
 use borrow.Author.Tests.{le-leb, lt-ltb}
 use Rattle.tetra_core.specs.declared.bitbuffer.Cursor.{Cursor}
@@ -58,7 +57,7 @@ ul_kept Ul'.AssignedOnly h = (refl, refl)
 ul_kept Ul'.Unallocated h = (refl, refl)
 ul_kept (Ul'.Traffic n) h = (refl, rw (kept n 255 h))
 
-pub access_assign_of_words_lem : (a : AccessAssign) → AssignTyped a → access_assign_of_words (access_assign_words a) ≡ some a
+pub access_assign_of_words_lem : (a : AccessAssign) → AssignTyped a → access_assign_of_words (access_assign_words a) ≡ Some a
 unfolding value_if access_assign_known one_known two_known assign_value
 access_assign_of_words_lem (DownlinkCommonControlUplinkCommonOnly f g) t =
     let x = field-kept f in

@@ -1,6 +1,5 @@
 -- The channel allocation's words give it back, and its refusals have a bit that fits a status.
 use Rattle.std.specs.Prelude.{ℕ, min, ◌≤◌, ◌≡◌, refl, List, true, length, Err, None, Ok, Option, Result, Some}
-use Rattle.std.proofs.Math.Option.{some}
 use Rattle.std.proofs.Common.{arith, le-leb}
 use Rattle.tetra_core.specs.declared.bitbuffer.Cursor.{Cursor}
 use Rattle.tetra_core.specs.declared.bitbuffer.Read.{Read}
@@ -47,7 +46,7 @@ channel_allocation-kept e t =
       ),
     )
 
-pub channel_allocation-of_words : (e : ChanAllocElement) → ChannelAllocationTyped e → channel_allocation_of_words (channel_allocation_words e) ≡ some e
+pub channel_allocation-of_words : (e : ChanAllocElement) → ChannelAllocationTyped e → channel_allocation_of_words (channel_allocation_words e) ≡ Some e
 channel_allocation-of_words e t = value_known (channel_allocation-kept e t)
 
 pub channel_allocation-long : (ws : List ℕ) → channel_allocation_known ws ≡ true → 9 ≤ length ws

@@ -1,6 +1,5 @@
 -- The MAC-ACCESS's words give it back, and its refusals have a bit that fits a status.
-use Rattle.std.specs.Prelude.{ℕ, ◌≤◌, ◌≡◌, refl, List, true, length, Err, Ok, Result}
-use Rattle.std.proofs.Math.Option.{some}
+use Rattle.std.specs.Prelude.{ℕ, ◌≤◌, ◌≡◌, refl, List, true, length, Err, Ok, Result, Some}
 use Rattle.std.proofs.Common.{arith, lt-ltb}
 use Rattle.tetra_core.specs.declared.bitbuffer.Cursor.{Cursor}
 use Rattle.tetra_core.specs.declared.bitbuffer.Read.{Read}
@@ -35,7 +34,7 @@ option_kept (CapacityRequest f q) h =
     let b = reservation_back q in
     (lt-ltb (reservation_number q) 16 b.0, rw (flag-back f, b.1))
 
-pub mac_access_of_words_lem : (h : MacAccess) → UplinkTyped h.addr → OptionTyped h.option → mac_access_of_words (mac_access_words h) ≡ some h
+pub mac_access_of_words_lem : (h : MacAccess) → UplinkTyped h.addr → OptionTyped h.option → mac_access_of_words (mac_access_words h) ≡ Some h
 unfolding value_if mac_access_known mac_access_value
 mac_access_of_words_lem h t u =
     let a = uplink_kept h.addr t in

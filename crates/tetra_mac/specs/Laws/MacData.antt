@@ -1,6 +1,5 @@
 -- The MAC-DATA's words give it back, and its refusals have a bit that fits a status.
-use Rattle.std.specs.Prelude.{ℕ, ◌≤◌, ◌≡◌, refl, List, true, length, Err, Ok, Result}
-use Rattle.std.proofs.Math.Option.{some}
+use Rattle.std.specs.Prelude.{ℕ, ◌≤◌, ◌≡◌, refl, List, true, length, Err, Ok, Result, Some}
 use Rattle.std.proofs.Common.{arith}
 use Rattle.tetra_core.specs.Laws.Windows.{and_both}
 use Rattle.tetra_core.specs.declared.bitbuffer.Cursor.{Cursor}
@@ -26,7 +25,7 @@ option_there : (o : MacDataOption) → (flag (option_kind (access_option o)) ≡
 option_there (LengthInd n) = (refl, refl)
 option_there (CapacityRequest f q) = (refl, refl)
 
-pub mac_data_of_words_lem : (h : MacData) → UplinkTyped h.addr → OptionTyped (access_option h.option) → mac_data_of_words (mac_data_words h) ≡ some h
+pub mac_data_of_words_lem : (h : MacData) → UplinkTyped h.addr → OptionTyped (access_option h.option) → mac_data_of_words (mac_data_words h) ≡ Some h
 unfolding value_if mac_data_known mac_access_known mac_access_value
 mac_data_of_words_lem h t u =
     let a = uplink_kept h.addr t in

@@ -1,5 +1,5 @@
 -- A reader that refuses only at offsets that it has reached is refused inside the window, so the bit of its refusal fits a status.
-use Rattle.std.specs.Prelude.{ℕ, ◌+◌, ◌≤◌, ◌≡◌, refl, List, Bool, true, false, length, drop, leb}
+use Rattle.std.specs.Prelude.{ℕ, ◌+◌, ◌≤◌, ◌≡◌, refl, List, Bool, true, false, length, drop, leb, Result, Ok, Err}
 use Rattle.std.proofs.Common.{arith, length-drop, leb-true, leb-false}
 use Rattle.tetra_core.specs.BitBuffer.{good_window, moved}
 use Rattle.tetra_core.specs.Laws.Windows.{good_facts}

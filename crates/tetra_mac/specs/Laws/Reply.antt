@@ -1,8 +1,7 @@
 -- The ends of a call.
-use Rattle.std.specs.Prelude.{ℕ, min, ◌≤◌, ◌<◌, ◌≡◌, List, Bool, true, false, not, ◌&&◌, length, leb}
+use Rattle.std.specs.Prelude.{ℕ, min, ◌≤◌, ◌<◌, ◌≡◌, List, Bool, true, false, not, ◌&&◌, length, leb, Option, Some, None}
 use Rattle.std.proofs.Math.Path.{refl}
 use Rattle.std.proofs.Common.{sym, ap, ◌∙◌, arith}
-use Rattle.std.proofs.Math.Option.{Option, none, some}
 use borrow.Author.Tests.{leb-true, le-leb, lt-leb, not-true, not-false}
 use Rattle.tetra_core.specs.Laws.Windows.{and_both}
 use Rattle.tetra_core.specs.declared.bitbuffer.Moved.{Moved}
@@ -13,7 +12,7 @@ pub kept : (n m : ℕ) → n ≤ m → min n m ≡ n
 kept n m h = omega arith
 
 -- a value whose words are known
-pub value_known : {A : Type 0} {known : Bool} {v x : A} → (known ≡ true) × (v ≡ x) → value_if known v ≡ some x
+pub value_known : {A : Type 0} {known : Bool} {v x : A} → (known ≡ true) × (v ≡ x) → value_if known v ≡ Some x
 unfolding value_if
 value_known h = rw (h.0, h.1)
 
@@ -35,11 +34,11 @@ module _ {B : Type 0} (reply : List ℕ → ℕ → B → Reply) (n at : ℕ) (a
 module _ {A : Type 0} (write : A → Moved) (written : A → List ℕ) (s out : List ℕ) where
   pub write_no_room : (v : Option A) → length out < 1 → wrote malformed out s ≡ write_reply write written s v out
   unfolding write_reply
-  write_no_room none h = refl
-  write_no_room (some v) h = rw (lt-leb 1 (length out) h)
+  write_no_room None h = refl
+  write_no_room (Some v) h = rw (lt-leb 1 (length out) h)
 
   pub write_replied : 1 ≤ length out → {v : A} {n : ℕ} {after bytes : List ℕ} {m : Moved}
-      → (m ≡ write v) × (bytes ≡ written v) → replied n after ≡ moved_reply out m → wrote n after bytes ≡ write_reply write written s (some v) out
+      → (m ≡ write v) × (bytes ≡ written v) → replied n after ≡ moved_reply out m → wrote n after bytes ≡ write_reply write written s (Some v) out
   unfolding write_reply
   write_replied l {bytes = b} d r = rw (le-leb 1 (length out) l, ← d.0, ← d.1) (ap (λ (y : Reply). with_bytes y b) r)
 
@@ -58,8 +57,8 @@ module _ {A : Type 0} (write : A → Moved) (written : A → List ℕ) (s out : 
 module _ {A : Type 0} (reply : A → Reply) (n : ℕ) (out : List ℕ) where
   pub count_no_room : (v : Option A) → length out < n → replied malformed out ≡ record_reply reply n v out
   unfolding record_reply
-  count_no_room none h = refl
-  count_no_room (some v) h = rw (lt-leb n (length out) h)
+  count_no_room None h = refl
+  count_no_room (Some v) h = rw (lt-leb n (length out) h)
 
   module _ (v : A) {known t : Bool} (e : t ≡ known) where
     pub count_unknown : not t ≡ true → replied malformed out ≡ record_reply reply n (value_if known v) out

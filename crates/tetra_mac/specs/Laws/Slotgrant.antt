@@ -1,6 +1,5 @@
 -- The slot grant's words give it back, and its refusals have a bit that fits a status.
-use Rattle.std.specs.Prelude.{ℕ, min, ◌≤◌, ◌≡◌, refl, List, true, length, Err, Ok, Result}
-use Rattle.std.proofs.Math.Option.{some}
+use Rattle.std.specs.Prelude.{ℕ, min, ◌≤◌, ◌≡◌, refl, List, true, length, Err, Ok, Result, Some}
 use Rattle.std.proofs.Common.{arith, le-leb}
 use Rattle.tetra_core.specs.declared.bitbuffer.Cursor.{Cursor}
 use Rattle.tetra_core.specs.declared.bitbuffer.Read.{Read}
@@ -30,7 +29,7 @@ slotgrant_kept g h =
     let b = cap_alloc_back g.capacity_allocation in
     (rw (le-leb (cap_alloc_number g.capacity_allocation) 15 (omega (arith, b.0)), le-leb (delay_kind g.granting_delay) 3 k.0), rw (b.1, k.1))
 
-pub slotgrant_of_words_lem : (g : BasicSlotgrant) → delay_count g.granting_delay ≤ 255 → slotgrant_of_words (slotgrant_words g) ≡ some g
+pub slotgrant_of_words_lem : (g : BasicSlotgrant) → delay_count g.granting_delay ≤ 255 → slotgrant_of_words (slotgrant_words g) ≡ Some g
 slotgrant_of_words_lem g h = value_known (slotgrant_kept g h)
 
 pub slotgrant_long : (ws : List ℕ) → slotgrant_known ws ≡ true → 3 ≤ length ws

@@ -28,9 +28,9 @@ last c =
     let e : a.bit + a.size - (a.bit + a.header_bits) ≡ a.size - a.header_bits = omega arith in
     rw (behind-part _ _ _ _ c.requires.0 c.requires.2) (rw e at c.last_one_of.ensures)
 
-pub returns-in-At : goal.returns-in-At
-returns-in-At c =
-    filled _ _ _ _ _ _ (not-false _ c.if-not-header.false) (sym c.in-At.is ∙ last (goal.at.returns-in-At c).After-last_one_of)
+pub returns-in-Some : goal.returns-in-Some
+returns-in-Some c =
+    filled _ _ _ _ _ _ (not-false _ c.if-not-header.false) (sym c.in-Some.is ∙ last (goal.at.returns-in-Some c).After-last_one_of)
 
 pub returns-in-None : goal.returns-in-None
 returns-in-None c =
