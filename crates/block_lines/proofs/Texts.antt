@@ -1,5 +1,7 @@
 -- The text of a block, as a walk puts it: line by line.
 use Rattle.std.specs.Prelude.{Result, Option, Ok, Err, Some, None}
+use Rattle.std.specs.Result.{result_unwrap_or}
+use Rattle.std.proofs.lemmas.Option.{none-some}
 use mathlib.Core.Path.{◌≡◌, refl, sym, ap, ◌∙◌}
 use mathlib.Core.Bool.{Bool, true, false}
 use mathlib.Core.List.{List, [], ◌∷◌, ◌++◌, append_assoc, append-nil}
@@ -10,6 +12,7 @@ use lib.Seq.{length-take-le}
 use Rattle.text.specs.Counts.{IsPrefixLen}
 use Rattle.text.specs.Put.{Put, AtStart}
 use Rattle.text.specs.Laws.Puts.{then, wider, reads, put_nothing, at-start, start-counts}
+use Rattle.tetra_core.specs.declared.refusal.Refusal.{Refusal}
 use Rattle.mac_block.specs.declared.reader.BlockEntry.{BlockEntry}
 use Rattle.block_rules.specs.Walk.{good_block, step, follow, walk_by, walk_from, walk}
 use Rattle.block_rules.specs.Downlink.{downlink_reader}
@@ -27,6 +30,14 @@ use Rattle.block_lines.proofs.Lines.{answer_line, lines_on}
 -- an answer that is no entry
 abbrev NoEntry : Result (Option BlockEntry) Refusal → Type 0
 NoEntry a = (e : BlockEntry) → a ≡ Ok (Some e) → ⊥
+
+-- the entry of an answer, or none
+pub some_entry : (a : Result (Option BlockEntry) Refusal) (e : BlockEntry) → result_unwrap_or a None ≡ Some e → a ≡ Ok (Some e)
+some_entry (Ok o) e h = ap Ok h
+some_entry (Err r) e h = absurd (none-some e h)
+
+pub no_entry : (a : Result (Option BlockEntry) Refusal) → ((e : BlockEntry) → result_unwrap_or a None ≡ Some e → ⊥) → NoEntry a
+no_entry a k e q = k e (rw q)
 
 module _ (v : List ℕ) (n : ℕ) where
   -- ---- how many lines there are

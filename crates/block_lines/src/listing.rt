@@ -27,9 +27,9 @@ fn block_text(out: &mut [u8], at: usize, block: &[u8], bits: usize) -> usize
     let mut position = Position::At(0);
     loop {
         let step = block_walk::walk_step(block, bits, position);
-        let answer = step.answer;
         position = step.position;
-        let Ok(Some(entry)) = answer else {
+        // A step that is refused ends the listing as the walk's end does.
+        let Some(entry) = step.answer.unwrap_or(None) else {
             return rest_text(out, p, block_walk::rest_from(block, bits, position));
         };
         p = line::line_text(out, p, line::entry_line(entry));

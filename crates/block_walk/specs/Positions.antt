@@ -1,6 +1,7 @@
 -- A walk's positions: what the step from each answers, and the position after it. Document 01, "Block".
 use Rattle.std.specs.Prelude.{ℕ, ◌+◌, ◌-◌, ◌≤◌, List, None, Option, Some, Result, Ok, Err}
 use Rattle.std.specs.Borrow.{Bor}
+use Rattle.tetra_core.specs.declared.refusal.Refusal.{Refusal}
 use Rattle.mac_block.specs.declared.reader.BlockEntry.{BlockEntry}
 use Rattle.block_rules.specs.Numbers.{most_bits, least_bits}
 use Rattle.block_rules.specs.Walk as block

@@ -13,7 +13,7 @@ use Rattle.tetra_core.specs.declared.quantity.OctetCount.{OctetCount}
 -- what a call answers
 pub data BitsCall : Type 0 where
   -- a read or a peek, and one into a slice, with the bytes that are left in it
-  Read : Read ℕ → BitsCall
+  Reads : Read ℕ → BitsCall
   ReadInto : Read ℕ → (buf : List ℕ) → BitsCall
   -- a write or a copy, and the bytes that are left
   Wrote : Moved → (bytes : List ℕ) → BitsCall
@@ -73,15 +73,15 @@ bad = cursor 8 7 40
 -- read_bit, peek_bits and peek_bits_startoffset
 abbrev pub reads : List Check
 reads =
-    check (Read (read_bits sample (cursor 0 3 136) 1)) (Read (value 1 (cursor 0 4 136)))
-    ∷ check (Read (read_bits sample (cursor 0 136 136) 1)) (Read (refuses 1 (cursor 0 136 136)))
-    ∷ check (Read (peek_at sample (cursor 0 3 136) 3 64)) (Read (value 0x91a2b3c4d5e6f780 (cursor 0 3 136)))
-    ∷ check (Read (peek_at sample (cursor 0 3 136) 3 65)) (Read (refuses 1 (cursor 0 3 136)))
-    ∷ check (Read (peek_at sample inner (8 + 24) 8)) (Read (value 0x9a inner))
-    ∷ check (Read (peek_at sample inner (8 + 25) 8)) (Read (refuses 1 inner))
-    ∷ check (Read (peek_at sample inner (8 + 32) 0)) (Read (value 0 inner))
-    ∷ check (Read (peek_at sample inner (8 + 33) 0)) (Read (refuses 1 inner))
-    ∷ check (Read (peek_at sample bad (8 + 0) 1)) (Read (refuses 13 bad))
+    check (Reads (read_bits sample (cursor 0 3 136) 1)) (Reads (value 1 (cursor 0 4 136)))
+    ∷ check (Reads (read_bits sample (cursor 0 136 136) 1)) (Reads (refuses 1 (cursor 0 136 136)))
+    ∷ check (Reads (peek_at sample (cursor 0 3 136) 3 64)) (Reads (value 0x91a2b3c4d5e6f780 (cursor 0 3 136)))
+    ∷ check (Reads (peek_at sample (cursor 0 3 136) 3 65)) (Reads (refuses 1 (cursor 0 3 136)))
+    ∷ check (Reads (peek_at sample inner (8 + 24) 8)) (Reads (value 0x9a inner))
+    ∷ check (Reads (peek_at sample inner (8 + 25) 8)) (Reads (refuses 1 inner))
+    ∷ check (Reads (peek_at sample inner (8 + 32) 0)) (Reads (value 0 inner))
+    ∷ check (Reads (peek_at sample inner (8 + 33) 0)) (Reads (refuses 1 inner))
+    ∷ check (Reads (peek_at sample bad (8 + 0) 1)) (Reads (refuses 13 bad))
     ∷ []
 
 -- read_bits_into_slice: eight bits a byte, the last filled up with zeros; to_bitarr and into_bitvec: one a byte, from the cursor on and the

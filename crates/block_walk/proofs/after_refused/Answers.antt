@@ -1,9 +1,9 @@
 use Rattle.block_walk.specs.Positions.{after_end}
 use Rattle.block_walk.proofs.after_refused.Goals as goal
 
-pub returns-in-At : goal.returns-in-At
+pub returns-in-Some : goal.returns-in-Some
 unfolding after_end
-returns-in-At c = rw c.in-At.is
+returns-in-Some c = rw c.in-Some.is
 
 pub returns-in-None : goal.returns-in-None
 unfolding after_end

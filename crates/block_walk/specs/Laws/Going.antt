@@ -7,6 +7,7 @@ use borrow.Author.Tests.{lt-leb}
 use Rattle.bits.specs.Bits.{bits_at}
 use Rattle.bits.proofs.Laws.Reads.{length_bits_at}
 use Rattle.block_rules.specs.declared.extent.Extent.{Extent}
+use Rattle.tetra_core.specs.declared.refusal.Refusal.{Refusal}
 use Rattle.mac_block.specs.declared.reader.BlockEntry.{BlockEntry}
 use Rattle.block_rules.specs.Numbers.{most_bits}
 use Rattle.block_rules.specs.Extent.{extent}

@@ -4,9 +4,9 @@ use Rattle.block_lines.specs.Address.{second_text}
 use Rattle.block_lines.specs.Most.{field_most}
 use Rattle.block_lines.proofs.address.second_text.Goals as goal
 
-pub returns-in-Number : goal.returns-in-Number
+pub returns-in-Some : goal.returns-in-Some
 unfolding second_text
-returns-in-Number c = rw c.in-Number.is c.space_number.ensures
+returns-in-Some c = rw c.in-Some.is c.space_number.ensures
 
 pub returns-in-None : goal.returns-in-None
 unfolding second_text
