@@ -2,6 +2,7 @@
 #![tactic(auto)]
 
 pub mod encoded;
+pub mod header;
 pub mod piece;
 
 ghost use Rattle.std.specs.Prelude.{◌≡◌, ◌+◌, ◌≤◌, ◌<◌, ltb, length};

@@ -1,5 +1,5 @@
 -- The laws of specs/Ahead.antt.
-use Rattle.std.specs.Prelude.{ℕ, zero, suc, ◌+◌, ◌-◌, ◌/◌, ◌%◌, ◌^◌, ◌≤◌, ◌<◌, ◌≡◌, refl, List, [], ◌∷◌, ◌++◌, Bool, length, take, drop}
+use Rattle.std.specs.Prelude.{ℕ, zero, suc, ◌+◌, ◌-◌, ◌/◌, ◌%◌, ◌^◌, ◌≤◌, ◌<◌, ◌≡◌, refl, List, [], ◌∷◌, ◌++◌, Bool, length, take, drop, Result, Ok}
 use Rattle.std.proofs.Common.{sym, ap, ◌∙◌, append_assoc, arith, add_assoc, add-zero, mod-lt, length-append, length-take, length-drop, take-append-drop, length-take-le, take-take, drop-drop, take_at, drop_at, pow_pos, shr_lt}
 use Rattle.std.proofs.Math.Nat.{mod-mod}
 use Rattle.std.proofs.Math.Pow.{mod-mod-pow}
@@ -13,9 +13,11 @@ use Rattle.tetra_core.specs.BitBuffer.{remaining}
 use Rattle.tetra_core.specs.Laws.Windows.{Good}
 use Rattle.tetra_core.specs.declared.bitbuffer.Cursor.{Cursor}
 use Rattle.codec.specs.Header.{Word, within}
-use Rattle.codec.proofs.Laws.Header.{read, word-there, length_left}
+use Rattle.codec.proofs.Laws.Header.{read, ends, word-there, length_left}
 use Rattle.codec.specs.declared.Ahead.{Ahead}
-use Rattle.codec.specs.Ahead.{next_bits, Held, ReadsNext, Ready, Onward, advanced, ending_in}
+use Rattle.codec.specs.Ahead.{next_bits, Held, ReadsNext, Ready, Onward, advanced, ending_in, Reads, part_out}
+use Rattle.tetra_core.specs.declared.refusal.Refusal.{Refusal}
+use Rattle.std.proofs.lemmas.Result.{IfOk-at_ok}
 
 -- the first and the last bits of a word
 word-front : {h : List Bool} {o v : ℕ} (m n : ℕ) → Word h o (m + n) v → (drop o h ≡ bits_of_nat m (v / 2 ^ n) ++ drop (o + m) h) × (drop (o + m) h ≡ bits_of_nat n v ++ drop (o + m + n) h)
@@ -97,10 +99,14 @@ onward_then {m = m} {n} k x y l = record {
 }
 
 -- what the function of a part that is ahead at the offset o answered, as the part's outcome
-pub next-read : {A R : Type 0} (view : ℕ → List Bool → R → Out A) {p : Reader A} {h : List Bool} {a : Ahead} {o : ℕ} {x r : R}
-    → ReadsNext (view a.at) p a x → Held h a → a.at ≡ o → x ≡ r → parse p (drop o h) o ≡ view o h r
-next-read view {p} {h} {a} {o} {x} {r} f e z g =
-    ap (λ (o : ℕ). parse p (drop o h) o) (sym z) ∙ read (f.of h e) g ∙ ap (λ (o : ℕ). view o h r) z
+pub next-read : {A : Type 0} {p : Reader A} {h : List Bool} {a : Ahead} {n o : ℕ} {x r : Result (A × Ahead) Refusal}
+    → ReadsNext p a n x → Held h a → a.at ≡ o → x ≡ r → parse p (drop o h) o ≡ part_out r h
+next-read {p = p} {h} f e z g = ap (λ (o : ℕ). parse p (drop o h) o) (sym z) ∙ read (f.of h e) g
+
+-- a header that was read ends inside its window
+pub read-ends : {A : Type 0} {p : Reader A} {o : ℕ} {x : Result (A × Ahead) Refusal} {v : A} {b : Ahead} (s : List ℕ) (c : Cursor) → Good (length s) c
+    → Reads p (within s c) o x → o ≡ 0 → x ≡ Ok (v, b) → c.pos + b.at ≤ c.end
+read-ends {p = p} s c g f z e = ends p s c g (rw z at (read f e))
 
 -- what is ahead is so of some header
 record Somewhere (a : Ahead) : Type 0 where
@@ -140,12 +146,16 @@ somewhere a = record { header = all; held = record { bits = sym (ap length behin
         }
 
 -- so what was read of it was there, with no header at hand
-pub read-there : {A R : Type 0} {view : List Bool → R → Out A} {p : Reader A} {a : Ahead} {x : R} {v : A} (n : ℕ) → ReadsNext view p a x
-    → ((h : List Bool) → view h x ≡ got v (drop (a.at + n) h) (a.at + n)) → n ≤ a.left
+pub read-there : {A : Type 0} {p : Reader A} {a b : Ahead} {x : Result (A × Ahead) Refusal} {v : A} (n : ℕ) → ReadsNext p a n x
+    → x ≡ Ok (v, b) → (a.at ≤ b.at) × (b.at ≤ a.at + a.left)
 read-there {p = p} {a} n f e =
     let s = somewhere a in
-    let i = rw (sym (f.of s.header s.held).means ∙ e s.header) at (inside p (drop a.at s.header) a.at) in
-    omega (arith, s.held.bits, i.1)
+    let i = rw (read (f.of s.header s.held) e) at (inside p (drop a.at s.header) a.at) in
+    (i.0, omega (arith, s.held.bits, i.1))
+
+-- where a part was read, what is ahead after it
+pub on-from : {A : Type 0} {p : Reader A} {a b : Ahead} {n : ℕ} {x : Result (A × Ahead) Refusal} {v : A} → ReadsNext p a n x → x ≡ Ok (v, b) → Onward a n b
+on-from {a = a} {n = n} f e = IfOk-at_ok (λ x. Onward a n x.1) e f.onward
 
 -- too few bits are left for the fields that a reader starts with, and for one field
 pub ahead_short : {A : Type 0} {h : List Bool} {a : Ahead} (p : Reader A) (ws : List ℕ) → Starts ws p → Held h a → a.left < total ws

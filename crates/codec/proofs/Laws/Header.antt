@@ -1,5 +1,5 @@
 -- The laws of specs/Header.antt.
-use Rattle.std.specs.Prelude.{ℕ, ◌+◌, ◌-◌, ◌≤◌, ◌≡◌, refl, List, ◌++◌, Bool, true, false, not, cond, length, eqb}
+use Rattle.std.specs.Prelude.{ℕ, ◌+◌, ◌-◌, ◌≤◌, ◌≡◌, refl, List, ◌++◌, Bool, true, false, not, length, Result}
 use Rattle.std.proofs.Math.Path.{sym, ap}
 use Rattle.std.proofs.Common.{◌∙◌, length-drop, drop-drop}
 use native.Mathlib.Omega.{arith}
@@ -13,11 +13,13 @@ use Rattle.bits.proofs.Laws.Reads.{length_bits_at, bits_at_add, get_bits_lt}
 use Rattle.tetra_core.specs.Laws.Windows.{Good}
 use Rattle.tetra_core.specs.declared.bitbuffer.Cursor.{Cursor}
 use Rattle.tetra_core.specs.declared.refusal.Refusal.{Refusal}
-use Rattle.codec.specs.Reader.{Out, got, refused, next, field_at, Reader, parse}
+use Rattle.codec.specs.Reader.{got, field_at, Reader, parse}
 use Rattle.codec.proofs.Laws.Reader.{inside}
 use Rattle.codec.specs.Words.{parse_word}
 use Rattle.codec.proofs.Laws.Words.{parse-word, field-alone}
-use Rattle.codec.specs.Header.{within, Word, Reads, part_out}
+use Rattle.codec.specs.Header.{within, Word}
+use Rattle.codec.specs.declared.Ahead.{Ahead}
+use Rattle.codec.specs.Ahead.{Reads, part_out}
 
 -- ---- the bits of a good window
 
@@ -48,14 +50,6 @@ module _ (s : List ℕ) (c : Cursor) (g : Good (length s) c) where
 
 -- ---- a part of a header
 
--- what follows a part
-pub next-part : {A B : Type 0} (r : Refusal) (x : Out A) (k : A → List Bool → ℕ → Out B) → next (part_out r x) k ≡ part_out r (next x k)
-next-part {A} {B} r x k = go (eqb r.number 0)
-  where
-    go : (b : Bool) → next (cond b x (refused r.number r.offset)) k ≡ cond b (next x k) (refused r.number r.offset)
-    go true = refl
-    go false = refl
-
 -- a reader where a word was read: each field that lies in the word is a part of x
 pub parsed_word : {A : Type 0} {h : List Bool} {o n x : ℕ} (p : Reader A) → Word h o n x → parse p (drop o h) o ≡ parse_word p x n 0 (drop (o + n) h) o
 parsed_word {o = o} p e = rw e.bits (parse-word p _ _ 0 _ o)
@@ -65,9 +59,9 @@ pub alone : {h : List Bool} {o n x : ℕ} → Word h o n x → field_at n (drop 
 alone {h} {o} {n} {x} e = rw e.bits (field-alone n x (drop (o + n) h) o e.small)
 
 -- what a part of a header is read as by a function
-pub read : {A R : Type 0} {view : List Bool → R → Out A} {p : Reader A} {h : List Bool} {o : ℕ} {x r : R}
-    → Reads view p h o x → x ≡ r → parse p (drop o h) o ≡ view h r
-read {view = view} {h = h} p e = sym p.means ∙ ap (view h) e
+pub read : {A : Type 0} {p : Reader A} {h : List Bool} {o : ℕ} {x r : Result (A × Ahead) Refusal}
+    → Reads p h o x → x ≡ r → parse p (drop o h) o ≡ part_out r h
+read {A} {h = h} p e = sym p.means ∙ ap (λ (r : Result (A × Ahead) Refusal). part_out r h) e
 
 -- ---- a public call, whose first line is `if !good_window(..)` with the answer t
 
