@@ -5,7 +5,7 @@ use Rattle.tetra_core.specs.declared.bitbuffer.Cursor.{Cursor}
 use Rattle.tetra_core.specs.declared.bitbuffer.Read.{Read}
 use Rattle.tetra_core.specs.declared.bitbuffer.Moved.{Moved}
 use Rattle.codec.specs.Reader.{Out, got, Reader, done, field, ◌>>=◌}
-use Rattle.codec.specs.Header.{at_cursor, part_out}
+use Rattle.codec.specs.Header.{at_cursor}
 use Rattle.codec.specs.Row.{Cell, cell, row_bits}
 use Rattle.codec.specs.Write.{write_at, written_at}
 use Rattle.tetra_fields.specs.ReservationRequirement.{reservation_number, reservation_of, slotcount, reservation_for}
@@ -18,7 +18,6 @@ use Rattle.tetra_fields.specs.declared.enums.basic_slotgrant_cap_alloc.GrantedSl
 use Rattle.tetra_fields.specs.declared.enums.basic_slotgrant_granting_delay.BasicSlotgrantGrantingDelay.{BasicSlotgrantGrantingDelay}
 use Rattle.tetra_fields.specs.declared.enums.basic_slotgrant_granting_delay.BasicSlotgrantGrantingDelay.TheVariants.{CapAllocAtNextOpportunity, DelayNOpportunities, AllocStartsAtOpportunityInFr18, WaitForAnotherSlotgrantMessage}
 use Rattle.tetra_fields.specs.declared.fields.basic_slotgrant.BasicSlotgrant.{BasicSlotgrant}
-use Rattle.tetra_fields.specs.declared.fields.basic_slotgrant.SlotgrantPart.{SlotgrantPart}
 
 -- ---- the number of each case
 
@@ -115,10 +114,7 @@ read_slotgrant = do
 abbrev pub slotgrant_size : ℕ
 slotgrant_size = 8
 
--- the answer of a part at the offset o as an outcome
-abbrev pub slotgrant_out : ℕ → List Bool → SlotgrantPart → Out BasicSlotgrant
-slotgrant_out o h p = part_out p.refusal (got p.grant (drop (o + slotgrant_size) h) (o + slotgrant_size))
-
+-- the same at a cursor
 unfoldable pub slotgrant_at : List ℕ → Cursor → Read BasicSlotgrant
 slotgrant_at = at_cursor read_slotgrant
 

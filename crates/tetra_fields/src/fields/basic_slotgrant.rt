@@ -3,7 +3,7 @@ ghost use Rattle.std.specs.Prelude.{◌≡◌};
 ghost use Rattle.codec.specs.Ahead.{Ready, ReadsNext};
 ghost use Rattle.codec.specs.Row.{row_bits, RowIs};
 ghost use Rattle.codec.specs.Encoded.{EncodesOne};
-ghost use Rattle.tetra_fields.specs.BasicSlotgrant.{slotgrant_size, read_slotgrant, slotgrant_out, slotgrant_at, slotgrant_row, slotgrant_refusal, slotgrant_write, slotgrant_written};
+ghost use Rattle.tetra_fields.specs.BasicSlotgrant.{slotgrant_size, read_slotgrant, slotgrant_at, slotgrant_row, slotgrant_refusal, slotgrant_write, slotgrant_written};
 
 use crate::enums::basic_slotgrant_cap_alloc::BasicSlotgrantCapAlloc;
 use crate::enums::basic_slotgrant_granting_delay::BasicSlotgrantGrantingDelay;
@@ -11,11 +11,12 @@ use crate::enums::{
     basic_slotgrant_cap_alloc as cap_alloc, basic_slotgrant_granting_delay as granting_delay,
 };
 use codec::encoded::Encoded;
+use codec::header::Header;
 use codec::piece::Piece;
-use codec::{Ahead, encoded};
+use codec::{Ahead, encoded, header};
 use tetra_core::bitbuffer::{Cursor, Moved, Read};
+use tetra_core::refusal;
 use tetra_core::refusal::Refusal;
-use tetra_core::{bitbuffer, refusal};
 
 // The bits of a slot grant.
 const SIZE: usize = 8;
@@ -29,75 +30,36 @@ pub struct BasicSlotgrant {
     pub granting_delay: BasicSlotgrantGrantingDelay,
 }
 
-// A slot grant as a part of a header: why it is not read, or number 0.
-#[derive(Clone, Copy)]
-pub struct SlotgrantPart {
-    pub refusal: Refusal,
-    pub grant: BasicSlotgrant,
-}
-
-// What else a refused part holds is not looked at.
-fn refused(refusal: Refusal) -> SlotgrantPart
-    ensures { result.refusal ≡ refusal }
-{
-    SlotgrantPart {
-        refusal,
-        grant: BasicSlotgrant {
-            capacity_allocation: BasicSlotgrantCapAlloc::FirstSubslotGranted,
-            granting_delay: BasicSlotgrantGrantingDelay::CapAllocAtNextOpportunity,
-        },
-    }
-}
-
-// The slot grant that is ahead.
-pub fn read_slotgrant(a: Ahead) -> SlotgrantPart
+// The slot grant that is ahead, and what is ahead after it.
+pub fn read_slotgrant(a: Ahead) -> Result<(BasicSlotgrant, Ahead), Refusal>
     requires { Ready a slotgrant_size }
-    ensures { ReadsNext (slotgrant_out a.at) read_slotgrant a result }
+    ensures { ReadsNext read_slotgrant a slotgrant_size result }
 {
-    let left = a.left;
-    if left < SIZE {
-        let widths = [4u8, 4];
-        return refused(codec::fields_past_end(&widths, left, a.at));
+    if a.left < SIZE {
+        return Err(codec::fields_past_end(&[4, 4], a.left, a.at));
     }
     let x = codec::next_bits(a, SIZE);
-    SlotgrantPart {
-        refusal: Refusal {
-            number: refusal::NONE,
-            offset: 0,
-        },
-        grant: BasicSlotgrant {
-            capacity_allocation: cap_alloc::from_raw(x / CAPACITY % 16),
-            granting_delay: granting_delay::from_raw(x % 16),
-        },
+    let grant = BasicSlotgrant {
+        capacity_allocation: cap_alloc::from_raw(x / CAPACITY % 16),
+        granting_delay: granting_delay::from_raw(x % 16),
+    };
+    Ok((grant, codec::advance(a, SIZE)))
+}
+
+impl Header for BasicSlotgrant {
+    ghost reader = { read_slotgrant };
+
+    fn read(_s: &[u8], _c: Cursor, a: Ahead) -> Result<(BasicSlotgrant, Ahead), Refusal> {
+        read_slotgrant(a)
     }
 }
 
 // Reads a slot grant at the cursor.
+#[tactic(auto, unfolding(crate::specs::BasicSlotgrant::slotgrant_at))]
 pub fn from_bitbuf(s: &[u8], c: Cursor) -> Read<BasicSlotgrant>
     ensures { result ≡ slotgrant_at s.now c }
 {
-    if !bitbuffer::good_window(s.len(), c) {
-        return Read {
-            cursor: c,
-            answer: Err(Refusal {
-                number: refusal::BAD_WINDOW,
-                offset: 0,
-            }),
-        };
-    }
-    let part = read_slotgrant(codec::load(s, c, 0));
-    let refusal = part.refusal;
-    let grant = part.grant;
-    if refusal.number != 0 {
-        return Read {
-            cursor: c,
-            answer: Err(refusal),
-        };
-    }
-    Read {
-        cursor: codec::moved_by(c, SIZE),
-        answer: Ok(grant),
-    }
+    header::from_bitbuf(s, c)
 }
 
 // Why a slot grant is not written, or 0.
