@@ -1,12 +1,13 @@
 -- ACCESS-ASSIGN (document 01): "Header 2, field one 6, field two 6. Header 0: two access fields .. Headers 1 and 2: downlink usage, access
 -- field. Header 3: downlink usage, uplink usage."
-use Rattle.std.specs.Prelude.{ℕ, ◌+◌, ◌≡◌, List, [], ◌∷◌, Bool, false, drop, eqb, Err, Ok}
+use Rattle.std.specs.Prelude.{ℕ, ◌+◌, ◌≡◌, List, [], ◌∷◌, Bool, false, drop, eqb, Result, Err, Ok}
 use Rattle.tetra_core.specs.Refusal.{first}
 use Rattle.tetra_core.specs.declared.bitbuffer.Cursor.{Cursor}
 use Rattle.tetra_core.specs.declared.bitbuffer.Read.{Read}
 use Rattle.tetra_core.specs.declared.bitbuffer.Moved.{Moved}
-use Rattle.codec.specs.Reader.{Out, got, Reader, done, refuse, field, here, choose, parse, ◌>>=◌}
-use Rattle.codec.specs.Header.{at_cursor, part_out}
+use Rattle.tetra_core.specs.declared.refusal.Refusal.{Refusal}
+use Rattle.codec.specs.Reader.{Out, got, refused, Reader, done, refuse, field, here, choose, parse, ◌>>=◌}
+use Rattle.codec.specs.Header.{at_cursor}
 use Rattle.codec.specs.Row.{Cell, cell, row_bits}
 use Rattle.codec.specs.Write.{write_at, written_at}
 use Rattle.access_assign.specs.AccessField.{access_field_number, access_field_of}
@@ -16,7 +17,6 @@ use Rattle.access_assign.specs.declared.structs.base_frame_length.BaseFrameLengt
 use Rattle.access_assign.specs.declared.structs.access_field.AccessField.{AccessField}
 use Rattle.access_assign.specs.declared.access_assign.AccessAssign.{AccessAssign}
 use Rattle.access_assign.specs.declared.access_assign.AccessAssign.TheVariants.{DownlinkCommonControlUplinkCommonOnly, DownlinkDefinedUplinkCommonAndAssigned, DownlinkDefinedUplinkAssignedOnly, DownlinkDefinedUplinkDefined}
-use Rattle.access_assign.specs.declared.access_assign.AccessAssignPart.{AccessAssignPart}
 
 -- ---- what is read
 
@@ -41,13 +41,14 @@ read_access_assign = do
 abbrev pub assign_size : ℕ
 assign_size = 14
 
--- the answer of a part at the offset o as an outcome
-abbrev pub access_assign_out : ℕ → List Bool → AccessAssignPart → Out AccessAssign
-access_assign_out o h p = part_out p.refusal (got p.assign (drop (o + assign_size) h) (o + assign_size))
+-- what these fields say, whatever bits follow them
+abbrev pub said : Result AccessAssign Refusal → List Bool → ℕ → Out AccessAssign
+said (Ok a) rest n = got a rest n
+said (Err r) rest n = refused r.number r.offset
 
--- the answer r is what these fields say, of which the second begins at an offset, whatever bits follow them
-abbrev pub Says : ℕ → ℕ → ℕ → ℕ → AccessAssignPart → Type 0
-Says header one two second r = (rest : List Bool) (n : ℕ) → part_out r.refusal (got r.assign rest n) ≡ parse (access_assign_of header one two second) rest n
+-- the answer r is what these fields say, of which the second begins at an offset
+abbrev pub Says : ℕ → ℕ → ℕ → ℕ → Result AccessAssign Refusal → Type 0
+Says header one two second r = (rest : List Bool) (n : ℕ) → said r rest n ≡ parse (access_assign_of header one two second) rest n
 
 unfoldable pub access_assign_at : List ℕ → Cursor → Read AccessAssign
 access_assign_at = at_cursor read_access_assign

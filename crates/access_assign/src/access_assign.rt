@@ -3,7 +3,7 @@ ghost use Rattle.std.specs.Prelude.{◌≡◌, ◌<◌};
 ghost use Rattle.codec.specs.Ahead.{Ready, ReadsNext};
 ghost use Rattle.codec.specs.Row.{row_bits, RowIs};
 ghost use Rattle.codec.specs.Encoded.{EncodesOne};
-ghost use Rattle.access_assign.specs.AccessAssign.{assign_size, default_access_assign, is_dl_traffic, Says, read_access_assign, access_assign_out, access_assign_at, header_number, field_one, field_two, access_assign_refusal, access_assign_row, access_assign_write, access_assign_written};
+ghost use Rattle.access_assign.specs.AccessAssign.{assign_size, default_access_assign, is_dl_traffic, Says, read_access_assign, access_assign_at, header_number, field_one, field_two, access_assign_refusal, access_assign_row, access_assign_write, access_assign_written};
 
 use crate::enums::access_assign_dl_usage::AccessAssignDlUsage;
 use crate::enums::access_assign_ul_usage::AccessAssignUlUsage;
@@ -13,11 +13,12 @@ use crate::structs::access_field;
 use crate::structs::access_field::AccessField;
 use crate::structs::base_frame_length::BaseFrameLength;
 use codec::encoded::Encoded;
+use codec::header::Header;
 use codec::piece::Piece;
-use codec::{Ahead, encoded};
+use codec::{Ahead, encoded, header};
 use tetra_core::bitbuffer::{Cursor, Moved, Read};
+use tetra_core::refusal;
 use tetra_core::refusal::Refusal;
-use tetra_core::{bitbuffer, refusal};
 
 // The bits of an ACCESS-ASSIGN.
 const SIZE: usize = 14;
@@ -53,13 +54,6 @@ pub enum AccessAssign {
         downlink_usage_marker: AccessAssignDlUsage,
         uplink_usage_marker: AccessAssignUlUsage,
     },
-}
-
-// An ACCESS-ASSIGN as a part of a header: why it is not read, or number 0.
-#[derive(Clone, Copy)]
-pub struct AccessAssignPart {
-    pub refusal: Refusal,
-    pub assign: AccessAssign,
 }
 
 // Both subslots open to all, code A, in an access frame of four subslots.
@@ -101,54 +95,32 @@ pub fn dl_is_traffic(a: AccessAssign) -> bool
     }
 }
 
-// What else a refused part holds is not looked at.
-fn refused(refusal: Refusal) -> AccessAssignPart
-    ensures { result.refusal ≡ refusal }
-{
-    AccessAssignPart {
-        refusal,
-        assign: default_access_assign(),
-    }
-}
-
-fn assign_read(assign: AccessAssign) -> AccessAssignPart
-    ensures { result ≡ record { refusal = record { number = 0; offset = 0 }; assign = assign } }
-{
-    AccessAssignPart {
-        refusal: Refusal {
-            number: refusal::NONE,
-            offset: 0,
-        },
-        assign,
-    }
-}
-
 // What the three fields of an ACCESS-ASSIGN say, of which field two begins at the offset second.
-fn access_assign_of(header: u64, one: u64, two: u64, second: usize) -> AccessAssignPart
+fn access_assign_of(header: u64, one: u64, two: u64, second: usize) -> Result<AccessAssign, Refusal>
     requires { (one < 64) × (two < 64) }
     ensures { Says header one two second result }
 {
     match header {
-        0 => assign_read(AccessAssign::DownlinkCommonControlUplinkCommonOnly {
+        0 => Ok(AccessAssign::DownlinkCommonControlUplinkCommonOnly {
             access_field_1: access_field::from_raw(one),
             access_field_2: access_field::from_raw(two),
         }),
-        1 => assign_read(AccessAssign::DownlinkDefinedUplinkCommonAndAssigned {
+        1 => Ok(AccessAssign::DownlinkDefinedUplinkCommonAndAssigned {
             downlink_usage_marker: dl_usage::from_usage_marker(one as u8),
             access_field: access_field::from_raw(two),
         }),
-        2 => assign_read(AccessAssign::DownlinkDefinedUplinkAssignedOnly {
+        2 => Ok(AccessAssign::DownlinkDefinedUplinkAssignedOnly {
             downlink_usage_marker: dl_usage::from_usage_marker(one as u8),
             access_field: access_field::from_raw(two),
         }),
         _ => match ul_usage::from_usage_marker(two as u8) {
             Some(uplink_usage_marker) => {
-                assign_read(AccessAssign::DownlinkDefinedUplinkDefined {
+                Ok(AccessAssign::DownlinkDefinedUplinkDefined {
                     downlink_usage_marker: dl_usage::from_usage_marker(one as u8),
                     uplink_usage_marker,
                 })
             }
-            None => refused(Refusal {
+            None => Err(Refusal {
                 number: refusal::USAGE_MARKER,
                 offset: second,
             }),
@@ -156,47 +128,34 @@ fn access_assign_of(header: u64, one: u64, two: u64, second: usize) -> AccessAss
     }
 }
 
-// The ACCESS-ASSIGN that is ahead.
-fn read_access_assign(a: Ahead) -> AccessAssignPart
+// The ACCESS-ASSIGN that is ahead, and what is ahead after it.
+fn read_access_assign(a: Ahead) -> Result<(AccessAssign, Ahead), Refusal>
     requires { Ready a assign_size }
-    ensures { ReadsNext (access_assign_out a.at) read_access_assign a result }
+    ensures { ReadsNext read_access_assign a assign_size result }
 {
-    let left = a.left;
     let o = a.at;
-    if left < SIZE {
-        let widths = [2u8, 6, 6];
-        return refused(codec::fields_past_end(&widths, left, o));
+    if a.left < SIZE {
+        return Err(codec::fields_past_end(&[2, 6, 6], a.left, o));
     }
     let x = codec::next_bits(a, SIZE);
-    access_assign_of(x / HEADER % 4, x / FIELD_ONE % 64, x % 64, o + FIELD_TWO_AT)
+    let assign = access_assign_of(x / HEADER % 4, x / FIELD_ONE % 64, x % 64, o + FIELD_TWO_AT)?;
+    Ok((assign, codec::advance(a, SIZE)))
+}
+
+impl Header for AccessAssign {
+    ghost reader = { read_access_assign };
+
+    fn read(_s: &[u8], _c: Cursor, a: Ahead) -> Result<(AccessAssign, Ahead), Refusal> {
+        read_access_assign(a)
+    }
 }
 
 // Reads an ACCESS-ASSIGN at the cursor.
+#[tactic(auto, unfolding(crate::specs::AccessAssign::access_assign_at))]
 pub fn from_bitbuf(s: &[u8], c: Cursor) -> Read<AccessAssign>
     ensures { result ≡ access_assign_at s.now c }
 {
-    if !bitbuffer::good_window(s.len(), c) {
-        return Read {
-            cursor: c,
-            answer: Err(Refusal {
-                number: refusal::BAD_WINDOW,
-                offset: 0,
-            }),
-        };
-    }
-    let part = read_access_assign(codec::load(s, c, 0));
-    let refusal = part.refusal;
-    let assign = part.assign;
-    if refusal.number != 0 {
-        return Read {
-            cursor: c,
-            answer: Err(refusal),
-        };
-    }
-    Read {
-        cursor: codec::moved_by(c, SIZE),
-        answer: Ok(assign),
-    }
+    header::from_bitbuf(s, c)
 }
 
 // Why an ACCESS-ASSIGN is not written, or 0.
@@ -230,7 +189,7 @@ pub fn access_assign_refusal(a: AccessAssign) -> u8
 }
 
 // The header of an ACCESS-ASSIGN, 2 bits.
-fn header(a: AccessAssign) -> u64
+fn header_number(a: AccessAssign) -> u64
     ensures { (result ≡ header_number a) × (result < 4) }
 {
     match a {
@@ -310,7 +269,7 @@ fn access_assign_word(a: AccessAssign) -> u64
     requires { access_assign_refusal a ≡ 0 }
     ensures { RowIs (access_assign_row a) assign_size result }
 {
-    header(a) * HEADER + (field_one(a) * FIELD_ONE + field_two(a))
+    header_number(a) * HEADER + (field_one(a) * FIELD_ONE + field_two(a))
 }
 
 // An ACCESS-ASSIGN on its way to being written.

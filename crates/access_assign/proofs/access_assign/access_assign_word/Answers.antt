@@ -6,5 +6,5 @@ use Rattle.access_assign.proofs.access_assign.access_assign_word.Goals as goal
 pub returns : goal.returns
 unfolding access_assign_row
 returns c =
-    rw (c.header.ensures.0, c.field_one.ensures.0, c.field_two.ensures.0)
+    rw (c.header_number.ensures.0, c.field_one.ensures.0, c.field_two.ensures.0)
     (row_is (access_assign_row c.args.a) (access_assign_fits c.args.a c.requires))
