@@ -15,7 +15,7 @@ use Rattle.tetra_core.specs.declared.bitbuffer.Cursor.{Cursor}
 use Rattle.codec.specs.Header.{Word, within}
 use Rattle.codec.proofs.Laws.Header.{read, ends, word-there, length_left}
 use Rattle.codec.specs.declared.Ahead.{Ahead}
-use Rattle.codec.specs.Ahead.{next_bits, Held, ReadsNext, Ready, Onward, advanced, ending_in, Reads, part_out}
+use Rattle.codec.specs.Ahead.{next_bits, Held, ReadsNext, Ready, Onward, Denied, advanced, ending_in, Reads, part_out}
 use Rattle.tetra_core.specs.declared.refusal.Refusal.{Refusal}
 use Rattle.std.proofs.lemmas.Result.{IfOk-at_ok}
 
@@ -155,8 +155,8 @@ read-there {p = p} {a} n f e =
 
 -- what a part answers that is refused as another part in it is
 pub read-denied : {A : Type 0} {p : Reader A} {a : Ahead} {n : ℕ} {x : Result (A × Ahead) Refusal} (y : Refusal) → x ≡ Err y
-    → ((h : List Bool) → Held h a → refused y.number y.offset ≡ parse p (drop a.at h) a.at) → ReadsNext p a n x
-read-denied y e f = rw e (record { of = λ h k. record { means = f h k }; onward = tt })
+    → Denied p a y → ReadsNext p a n x
+read-denied y e f = rw e (record { of = λ h k. record { means = f.of h k }; onward = tt })
 
 -- where a part was read, what is ahead after it
 pub on-from : {A : Type 0} {p : Reader A} {a b : Ahead} {n : ℕ} {x : Result (A × Ahead) Refusal} {v : A} → ReadsNext p a n x → x ≡ Ok (v, b) → Onward a n b

@@ -18,7 +18,7 @@ unfolding read_access_assign
 returns-in_err-assign c =
     let d = err_from_is_err_and c.from_residual.result c.from_residual.ensures.1 in
     read-denied d.0 d.1
-    (λ h e. rw (d.2, parsed_word read_access_assign (c.next_bits-x.ensures.word h e c.if-a-lt-SIZE.false)) (rw c.in_err-assign.was at c.access_assign_of.ensures _ _))
+    (record { of = λ h e. rw (d.2, parsed_word read_access_assign (c.next_bits-x.ensures.word h e c.if-a-lt-SIZE.false)) (rw c.in_err-assign.was at c.access_assign_of.ensures _ _) })
 
 pub returns : goal.returns
 unfolding read_access_assign

@@ -1,6 +1,6 @@
-use mathlib.Core.Path.{◌∙◌, sym}
+use mathlib.Core.Path.{refl, ◌∙◌, sym}
 use native.Mathlib.Omega.{arith}
-use Rattle.codec.proofs.Laws.Ahead.{ready_less, onward, onward-none}
+use Rattle.codec.proofs.Laws.Ahead.{ready_less, onward, onward-none, read-denied}
 use Rattle.mac_resource.specs.Address.{address_most, read_address}
 use Rattle.mac_resource.proofs.Words.{address-none, address_parsed, address-short}
 use Rattle.mac_resource.proofs.address.read_address.Goals as goal
@@ -9,36 +9,23 @@ pub returns-then-n-eq0 : goal.returns-then-n-eq0
 unfolding read_address
 returns-then-n-eq0 c =
     let n = address-none c.args.t (sym c.address_len-n.ensures.0 ∙ c.if-n-eq0.true) in
-    (record { of = λ h e. record { means = rw (c.no_refusal.ensures, n) } }, λ z. onward-none address_most)
+    record { of = λ h e. record { means = rw n }; onward = onward-none address_most }
 
-pub returns-then-left-n : goal.returns-then-left-n
-returns-then-left-n c =
-    let n = c.address_len-n.ensures.0 in (
-      record {
-        of = λ h e. record {
-          means = rw (c.fields_past_end.ensures, address-short c.args.t e (rw n at c.if-left-n.true));
-        };
-      },
-      λ z. absurd (let w = rw c.fields_past_end.ensures at z in omega arith),
-    )
+pub returns-then-a-n : goal.returns-then-a-n
+returns-then-a-n c =
+    read-denied _ refl
+    (record { of = λ h e. rw (c.fields_past_end.ensures, address-short c.args.t e (rw c.address_len-n.ensures.0 at c.if-a-n.true)) })
 
 pub advance-requires : goal.advance-requires
 advance-requires c =
-    (ready_less _ c.requires c.address_len-n.ensures.1, c.if-left-n.false)
+    (ready_less _ c.requires c.address_len-n.ensures.1, c.if-a-n.false)
 
 pub returns : goal.returns
 returns c =
-    let n = c.address_len-n.ensures.0 in (
-      record {
-        of = λ h e. record {
-          means = rw (
-            c.no_refusal-2.ensures,
-            c.address_of.ensures,
-            c.advance.ensures,
-            n,
-            address_parsed c.args.t (rw n at (c.next_bits-x.ensures.word h e c.if-left-n.false)),
-          );
-        };
-      },
-      λ z. rw c.advance.ensures (onward _ address_most c.address_len-n.ensures.1 c.if-left-n.false),
-    )
+    let n = c.address_len-n.ensures.0 in
+    record {
+      of = λ h e. record {
+        means = rw (c.address_of.ensures, c.advance.ensures, n, address_parsed c.args.t (rw n at (c.next_bits-x.ensures.word h e c.if-a-n.false)));
+      };
+      onward = rw c.advance.ensures (onward _ address_most c.address_len-n.ensures.1 c.if-a-n.false);
+    }
