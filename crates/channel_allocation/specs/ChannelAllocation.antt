@@ -8,9 +8,8 @@ use Rattle.tetra_core.specs.declared.bitbuffer.Cursor.{Cursor}
 use Rattle.tetra_core.specs.declared.bitbuffer.Read.{Read}
 use Rattle.tetra_core.specs.declared.quantity.Bits.{Bits}
 use Rattle.tetra_core.specs.declared.bitbuffer.Moved.{Moved}
-use Rattle.codec.specs.Reader.{Out, Reader, done, refuse, field, here, choose, ◌>>=◌}
+use Rattle.codec.specs.Reader.{Reader, done, refuse, field, here, choose, ◌>>=◌}
 use Rattle.codec.specs.Header.{at_cursor}
-use Rattle.codec.specs.Ahead.{part_after}
 use Rattle.codec.specs.Row.{Cell, cell, row_bits}
 use Rattle.codec.specs.Write.{write_at, written_at}
 use Rattle.codec.specs.Cases.{flag}
@@ -20,9 +19,7 @@ use Rattle.channel_allocation.specs.declared.enums.ul_dl_assignment.UlDlAssignme
 use Rattle.channel_allocation.specs.declared.enums.ul_dl_assignment.UlDlAssignment.TheVariants.{Augmented, Dl, Ul, Both}
 use Rattle.channel_allocation.specs.declared.channel_allocation.TimeslotsAssigned.{TimeslotsAssigned}
 use Rattle.channel_allocation.specs.declared.channel_allocation.MonPatterns.{MonPatterns}
-use Rattle.channel_allocation.specs.declared.channel_allocation.MonPatternsPart.{MonPatternsPart}
 use Rattle.channel_allocation.specs.declared.channel_allocation.ChanAllocElement.{ChanAllocElement}
-use Rattle.channel_allocation.specs.declared.channel_allocation.ChannelAllocationPart.{ChannelAllocationPart}
 
 -- ---- the number of each case
 
@@ -97,9 +94,6 @@ read_mon_patterns = do
         done (record { mon_pattern = pattern; frame18_mon_pattern = Some v }))
       (done (record { mon_pattern = pattern; frame18_mon_pattern = None }))
 
-abbrev pub mon_patterns_out : List Bool → MonPatternsPart → Out MonPatterns
-mon_patterns_out h p = part_after p.refusal p.patterns p.after h
-
 -- "A set extension flag is refused when read; augmented is refused after the patterns are read"
 unfoldable pub read_channel_allocation : Reader ChanAllocElement
 read_channel_allocation = do
@@ -140,13 +134,9 @@ element_of x p =
       frame18_mon_pattern = p.frame18_mon_pattern;
     }
 
--- a part's answer as an outcome
-abbrev pub channel_allocation_out : List Bool → ChannelAllocationPart → Out ChanAllocElement
-channel_allocation_out h p = part_after p.refusal p.element p.after h
-
+-- the same at a cursor
 unfoldable pub channel_allocation_at : List ℕ → Cursor → Read ChanAllocElement
-channel_allocation_at =
-    at_cursor read_channel_allocation
+channel_allocation_at = at_cursor read_channel_allocation
 
 -- ---- what is written
 

@@ -1,21 +1,22 @@
 // Clause 21.5.2, channel allocation: 25 bits, or 27 with monitoring pattern 0. An extended carrier and the augmented direction are refused.
 ghost use Rattle.std.specs.Prelude.{◌≡◌, ◌^◌, ◌≤◌, ◌<◌};
 ghost use Rattle.bits.specs.Bits.{bits_of_nat};
-ghost use Rattle.codec.specs.Ahead.{Ready, ReadsNext, Onward};
+ghost use Rattle.codec.specs.Ahead.{Ready, ReadsNext};
 ghost use Rattle.codec.specs.Row.{RowIs};
 ghost use Rattle.codec.specs.Encoded.{EncodesOne};
-ghost use Rattle.channel_allocation.specs.ChannelAllocation.{timeslots_of, timeslots_number, frame18_number, mon_patterns_most, read_mon_patterns, mon_patterns_out, element_of, read_channel_allocation, channel_allocation_out, channel_allocation_at, frame18_refusal, len_refusal, channel_allocation_refusal, head_len, head_row, channel_allocation_bits, channel_allocation_most, channel_allocation_len, compute_len, channel_allocation_write, channel_allocation_written};
+ghost use Rattle.channel_allocation.specs.ChannelAllocation.{timeslots_of, timeslots_number, frame18_number, mon_patterns_most, read_mon_patterns, element_of, read_channel_allocation, channel_allocation_at, frame18_refusal, len_refusal, channel_allocation_refusal, head_len, head_row, channel_allocation_bits, channel_allocation_most, channel_allocation_len, compute_len, channel_allocation_write, channel_allocation_written};
 
 use crate::enums::alloc_type::ChanAllocType;
 use crate::enums::ul_dl_assignment::UlDlAssignment;
 use crate::enums::{alloc_type, ul_dl_assignment};
 use codec::encoded::Encoded;
+use codec::header::Header;
 use codec::piece::Piece;
-use codec::{Ahead, encoded};
+use codec::{Ahead, encoded, header};
 use tetra_core::bitbuffer::{Cursor, Moved, Read};
 use tetra_core::quantity::Bits;
+use tetra_core::refusal;
 use tetra_core::refusal::Refusal;
-use tetra_core::{bitbuffer, refusal};
 
 // The bits up to the extension flag, and those of the whole element: most with monitoring pattern 0.
 const HEAD_BITS: usize = 23;
@@ -81,26 +82,11 @@ pub struct ChanAllocElement {
     pub frame18_mon_pattern: Option<u8>,
 }
 
-// A channel allocation as a part of a header: why it is not read, or number 0; and what is ahead after it.
-#[derive(Clone, Copy)]
-pub struct ChannelAllocationPart {
-    pub refusal: Refusal,
-    pub element: ChanAllocElement,
-    pub after: Ahead,
-}
-
 // The monitoring patterns as a part of a channel allocation.
 #[derive(Clone, Copy)]
 struct MonPatterns {
     pub mon_pattern: u8,
     pub frame18_mon_pattern: Option<u8>,
-}
-
-#[derive(Clone, Copy)]
-struct MonPatternsPart {
-    refusal: Refusal,
-    patterns: MonPatterns,
-    after: Ahead,
 }
 
 // The timeslots of a field's bits, the low 4 of v.
@@ -133,52 +119,32 @@ pub fn frame18_into_raw(p: Option<u8>) -> u64
     }
 }
 
-// What else refused patterns hold is not looked at.
-fn patterns_refused(offset: usize, after: Ahead) -> MonPatternsPart
-    ensures { result.refusal ≡ record { number = 1; offset = offset } }
-{
-    MonPatternsPart {
-        refusal: codec::field_past_end(offset),
-        patterns: MonPatterns {
-            mon_pattern: 0,
-            frame18_mon_pattern: None,
-        },
-        after,
-    }
-}
-
-fn patterns_read(mon_pattern: u8, frame18_mon_pattern: Option<u8>, after: Ahead) -> MonPatternsPart
-    ensures { result ≡ record { refusal = record { number = 0; offset = 0 }; patterns = record { mon_pattern = mon_pattern; frame18_mon_pattern = frame18_mon_pattern }; after = after } }
-{
-    MonPatternsPart {
-        refusal: codec::no_refusal(),
-        patterns: MonPatterns {
-            mon_pattern,
-            frame18_mon_pattern,
-        },
-        after,
-    }
-}
-
-// The monitoring pattern that is ahead, and the frame-18 pattern where it is 0.
-fn read_mon_patterns(a: Ahead) -> MonPatternsPart
+// The monitoring pattern that is ahead, and the frame-18 pattern where it is 0; and what is ahead after them.
+fn read_mon_patterns(a: Ahead) -> Result<(MonPatterns, Ahead), Refusal>
     requires { Ready a mon_patterns_most }
-    ensures { ReadsNext mon_patterns_out read_mon_patterns a result × (result.refusal.number ≡ 0 → Onward a mon_patterns_most result.after) }
+    ensures { ReadsNext read_mon_patterns a mon_patterns_most result }
 {
-    let left = a.left;
-    if left < 2 {
-        return patterns_refused(a.at, a);
+    if a.left < 2 {
+        return Err(codec::field_past_end(a.at));
     }
     let pattern = codec::next_bits(a, 2);
     let b = codec::advance(a, 2);
     if pattern != 0 {
-        return patterns_read(pattern as u8, None, b);
+        let alone = MonPatterns {
+            mon_pattern: pattern as u8,
+            frame18_mon_pattern: None,
+        };
+        return Ok((alone, b));
     }
-    if left < 4 {
-        return patterns_refused(b.at, a);
+    if b.left < 2 {
+        return Err(codec::field_past_end(b.at));
     }
     let v = codec::next_bits(b, 2);
-    patterns_read(pattern as u8, Some(v as u8), codec::advance(b, 2))
+    let both = MonPatterns {
+        mon_pattern: pattern as u8,
+        frame18_mon_pattern: Some(v as u8),
+    };
+    Ok((both, codec::advance(b, 2)))
 }
 
 // The channel allocation whose first 23 bits are the number x, with its patterns.
@@ -198,88 +164,45 @@ fn element_of(x: u64, p: MonPatterns) -> ChanAllocElement
     }
 }
 
-// What else a refused part holds is not looked at.
-fn refused(refusal: Refusal, after: Ahead) -> ChannelAllocationPart
-    ensures { result.refusal ≡ refusal }
-{
-    let none = MonPatterns {
-        mon_pattern: 0,
-        frame18_mon_pattern: None,
-    };
-    ChannelAllocationPart {
-        refusal,
-        element: element_of(0, none),
-        after,
-    }
-}
-
-// The channel allocation that is ahead.
-pub fn read_channel_allocation(a: Ahead) -> ChannelAllocationPart
+// The channel allocation that is ahead, and what is ahead after it.
+pub fn read_channel_allocation(a: Ahead) -> Result<(ChanAllocElement, Ahead), Refusal>
     requires { Ready a channel_allocation_most }
-    ensures { ReadsNext channel_allocation_out read_channel_allocation a result × (result.refusal.number ≡ 0 → Onward a channel_allocation_most result.after) }
+    ensures { ReadsNext read_channel_allocation a channel_allocation_most result }
 {
-    let left = a.left;
-    let o = a.at;
-    if left < HEAD_BITS {
-        let widths = [2u8, 4, 2, 1, 1, 12, 1];
-        return refused(codec::fields_past_end(&widths, left, o), a);
+    if a.left < HEAD_BITS {
+        return Err(codec::fields_past_end(&[2, 4, 2, 1, 1, 12, 1], a.left, a.at));
     }
     let x = codec::next_bits(a, HEAD_BITS);
     if x % 2 != 0 {
-        let refusal = Refusal {
+        return Err(Refusal {
             number: refusal::EXTENDED_CARRIER,
-            offset: o + EXTENSION_AT,
-        };
-        return refused(refusal, a);
+            offset: a.at + EXTENSION_AT,
+        });
     }
-    let part = read_mon_patterns(codec::advance(a, HEAD_BITS));
-    let refusal = part.refusal;
-    let patterns = part.patterns;
-    let after = part.after;
-    if refusal.number != 0 {
-        return refused(refusal, a);
-    }
+    let (patterns, after) = read_mon_patterns(codec::advance(a, HEAD_BITS))?;
     if x / DIRECTION % 4 == 0 {
-        let refusal = Refusal {
+        return Err(Refusal {
             number: refusal::AUGMENTED,
-            offset: o + DIRECTION_AT,
-        };
-        return refused(refusal, a);
+            offset: a.at + DIRECTION_AT,
+        });
     }
-    ChannelAllocationPart {
-        refusal,
-        element: element_of(x, patterns),
-        after,
+    Ok((element_of(x, patterns), after))
+}
+
+impl Header for ChanAllocElement {
+    ghost reader = { read_channel_allocation };
+
+    fn read(_s: &[u8], _c: Cursor, a: Ahead) -> Result<(ChanAllocElement, Ahead), Refusal> {
+        read_channel_allocation(a)
     }
 }
 
 // Reads a channel allocation at the cursor.
+#[tactic(auto, unfolding(crate::specs::ChannelAllocation::channel_allocation_at))]
 pub fn from_bitbuf(s: &[u8], c: Cursor) -> Read<ChanAllocElement>
     ensures { result ≡ channel_allocation_at s.now c }
 {
-    if !bitbuffer::good_window(s.len(), c) {
-        return Read {
-            cursor: c,
-            answer: Err(Refusal {
-                number: refusal::BAD_WINDOW,
-                offset: 0,
-            }),
-        };
-    }
-    let part = read_channel_allocation(codec::load(s, c, 0));
-    let refusal = part.refusal;
-    let element = part.element;
-    let after = part.after;
-    if refusal.number != 0 {
-        return Read {
-            cursor: c,
-            answer: Err(refusal),
-        };
-    }
-    Read {
-        cursor: codec::moved_by(c, after.at),
-        answer: Ok(element),
-    }
+    header::from_bitbuf(s, c)
 }
 
 // Why a frame-18 pattern is not written beside a monitoring pattern, or 0.

@@ -1,10 +1,10 @@
 -- The slot grant (document 01): "8 bits: capacity 4, delay 4. Delay 0 is next opportunity, 1 to 13 that many, 14 frame 18, 15 wait."
-use Rattle.std.specs.Prelude.{ℕ, ◌+◌, ◌%◌, List, [], ◌∷◌, Bool, cond, ◌&&◌, drop, get_or, eqb, leb, Err, None, Ok, Option, Some}
+use Rattle.std.specs.Prelude.{ℕ, ◌%◌, List, [], ◌∷◌, cond, ◌&&◌, get_or, eqb, leb, None, Option, Some}
 use Rattle.tetra_core.specs.Refusal.{unless}
 use Rattle.tetra_core.specs.declared.bitbuffer.Cursor.{Cursor}
 use Rattle.tetra_core.specs.declared.bitbuffer.Read.{Read}
 use Rattle.tetra_core.specs.declared.bitbuffer.Moved.{Moved}
-use Rattle.codec.specs.Reader.{Out, got, Reader, done, field, ◌>>=◌}
+use Rattle.codec.specs.Reader.{Reader, done, field, ◌>>=◌}
 use Rattle.codec.specs.Header.{at_cursor}
 use Rattle.codec.specs.Row.{Cell, cell, row_bits}
 use Rattle.codec.specs.Write.{write_at, written_at}

@@ -1,15 +1,13 @@
 -- The address of a MAC-ACCESS or MAC-DATA (document 01): "address type 2 (0 SSI, 1 label, 2 USSI, 3 SMI), address"; "SSI, USSI and SMI have
 -- 24 bits, label 10".
-use Rattle.std.specs.Prelude.{ℕ, ◌^◌, List, [], ◌∷◌, Bool, not, cond, drop, get_or, eqb, ltb}
+use Rattle.std.specs.Prelude.{ℕ, ◌^◌, List, [], ◌∷◌, Bool, not, cond, get_or, eqb, ltb}
 use Rattle.tetra_core.specs.Address.{uplink_address_type}
 use Rattle.tetra_core.specs.Refusal.{unless}
 use Rattle.tetra_core.specs.declared.address.SsiType.TheVariants as Kind'
 use Rattle.tetra_core.specs.declared.address.UplinkAddress.{UplinkAddress}
 use Rattle.tetra_core.specs.declared.address.UplinkAddress.TheVariants.{Ssi, EventLabel, Ussi, Smi}
-use Rattle.codec.specs.Header.{part_out}
-use Rattle.codec.specs.Reader.{Out, got, Reader, done, field, ◌>>=◌}
+use Rattle.codec.specs.Reader.{Reader, done, field, ◌>>=◌}
 use Rattle.codec.specs.Row.{Cell, cell}
-use Rattle.tetra_fields.specs.declared.fields.uplink_address.UplinkAddressPart.{UplinkAddressPart}
 
 -- the most bits of an address
 abbrev pub uplink_most : ℕ
@@ -29,10 +27,6 @@ unfoldable pub read_uplink_address : ℕ → Reader UplinkAddress
 read_uplink_address kind = do
   v ← field (uplink_width kind) done
   done (uplink_of kind v)
-
--- a part's answer as an outcome
-abbrev pub uplink_address_out : List Bool → UplinkAddressPart → Out UplinkAddress
-uplink_address_out h p = part_out p.refusal (got p.addr (drop p.after.at h) p.after.at)
 
 -- ---- what is written
 

@@ -1,18 +1,15 @@
 -- What a MAC-ACCESS and a MAC-DATA begin with (document 01): "Type 1 (0), fill 1, encrypted 1, address type 2 .., address" and "Type 2 (0), fill 1,
 -- encrypted 1, address as above". The width of the type is w.
-use Rattle.std.specs.Prelude.{ℕ, ◌+◌, List, [], ◌∷◌, Bool, not, drop, eqb}
+use Rattle.std.specs.Prelude.{ℕ, ◌+◌, List, [], ◌∷◌, Bool, not, eqb}
 use Rattle.tetra_core.specs.Address.{uplink_address_type}
 use Rattle.bits.specs.Bits.{digit}
 use Rattle.tetra_core.specs.Refusal.{first}
 use Rattle.tetra_core.specs.declared.address.UplinkAddress.{UplinkAddress}
-use Rattle.tetra_core.specs.declared.refusal.Refusal.{Refusal}
-use Rattle.codec.specs.Header.{part_out}
-use Rattle.codec.specs.Reader.{Out, got, refused, Reader, done, refuse, field, here, choose, ◌>>=◌}
+use Rattle.codec.specs.Reader.{Reader, done, refuse, field, here, choose, ◌>>=◌}
 use Rattle.codec.specs.Row.{Cell, cell}
 use Rattle.codec.specs.Cases.{flag}
 use Rattle.tetra_fields.specs.UplinkAddress.{uplink_most, uplink_width, read_uplink_address, encryption_refusal, uplink_address_refusal, uplink_address_row, normal_uplink}
 use Rattle.tetra_fields.specs.declared.fields.uplink_head.UplinkHead.{UplinkHead}
-use Rattle.tetra_fields.specs.declared.fields.uplink_head.UplinkHeadPart.{UplinkHeadPart}
 
 -- the bits between the type and the address; the most of a head, whose type has 2
 abbrev pub behind_type : ℕ
@@ -38,14 +35,6 @@ read_uplink_head w = do
   at ← here done
   type ← field w done
   choose (not (eqb type 0)) (refuse 4 at) read_uplink_body
-
--- a part's answer as an outcome
-abbrev pub uplink_head_out : List Bool → UplinkHeadPart → Out UplinkHead
-uplink_head_out h p = part_out p.refusal (got p.head (drop p.after.at h) p.after.at)
-
--- a refusal as one
-abbrev pub cut_off : List Bool → Refusal → Out UplinkHead
-cut_off h r = refused r.number r.offset
 
 -- ---- what is written
 

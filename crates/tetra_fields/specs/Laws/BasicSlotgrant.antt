@@ -1,5 +1,5 @@
 -- A slot grant that nothing refuses fits its 8 bits; what was written is read back, and what was read is written as the same bits.
-use Rattle.std.specs.Prelude.{ℕ, ◌+◌, ◌-◌, ◌<◌, ◌≡◌, refl, List, ◌++◌, Bool, length, take, leb, eqb, Err, Ok}
+use Rattle.std.specs.Prelude.{ℕ, ◌+◌, ◌-◌, ◌<◌, ◌≡◌, refl, List, ◌++◌, Bool, length, take, leb, eqb, Ok}
 use Rattle.std.proofs.Common.{mod-eq_of_lt, arith, lit<, leb-true, eqb-true, ne_eqb}
 use Rattle.tetra_core.specs.BitBuffer.{moved}
 use Rattle.tetra_core.specs.Refusal.{passed}

@@ -1,7 +1,7 @@
 // The address of a MAC-ACCESS or MAC-DATA, clauses 21.4.2.1 and 21.4.2.3: SSI, USSI and SMI have 24 bits, an event label 10.
 ghost use Rattle.std.specs.Prelude.{◌≡◌, ◌^◌, ◌≤◌, ◌<◌};
-ghost use Rattle.codec.specs.Ahead.{Ready, ReadsNext, Onward};
-ghost use Rattle.tetra_fields.specs.UplinkAddress.{uplink_most, uplink_width, uplink_of, uplink_number, read_uplink_address, uplink_address_out, uplink_address_refusal, encryption_refusal};
+ghost use Rattle.codec.specs.Ahead.{Ready, ReadsNext};
+ghost use Rattle.tetra_fields.specs.UplinkAddress.{uplink_most, uplink_width, uplink_of, uplink_number, read_uplink_address, uplink_address_refusal, encryption_refusal};
 
 use codec::Ahead;
 use tetra_core::address::{SsiType, UplinkAddress};
@@ -19,14 +19,6 @@ pub(crate) const BEFORE_LABEL: u64 = 1 << 10;
 
 // And before an SSI, USSI or SMI.
 pub(crate) const BEFORE_NUMBER: u64 = 1 << 24;
-
-// An address as a part of a header: why it is not read, or number 0; and what is ahead after it.
-#[derive(Clone, Copy)]
-pub struct UplinkAddressPart {
-    pub refusal: Refusal,
-    pub addr: UplinkAddress,
-    pub after: Ahead,
-}
 
 // The bits of an address of this type.
 pub fn uplink_width(kind: u64) -> usize
@@ -48,32 +40,17 @@ fn uplink_of(kind: u64, v: u64) -> UplinkAddress
     }
 }
 
-// The address of this type, which is ahead.
-pub(crate) fn read_uplink_address(a: Ahead, kind: u64) -> UplinkAddressPart
+// The address of this type that is ahead, and what is ahead after it.
+pub(crate) fn read_uplink_address(a: Ahead, kind: u64) -> Result<(UplinkAddress, Ahead), Refusal>
     requires { Ready a uplink_most }
-    ensures { ReadsNext uplink_address_out (read_uplink_address kind) a result × (result.refusal.number ≡ 0 → Onward a uplink_most result.after) }
+    ensures { ReadsNext (read_uplink_address kind) a uplink_most result }
 {
-    let left = a.left;
     let n = uplink_width(kind);
-    if left < n {
-        return UplinkAddressPart {
-            refusal: Refusal {
-                number: refusal::READ_PAST_END,
-                offset: a.at,
-            },
-            addr: UplinkAddress::EventLabel(0),
-            after: a,
-        };
+    if a.left < n {
+        return Err(codec::field_past_end(a.at));
     }
     let v = codec::next_bits(a, n);
-    UplinkAddressPart {
-        refusal: Refusal {
-            number: refusal::NONE,
-            offset: 0,
-        },
-        addr: uplink_of(kind, v),
-        after: codec::advance(a, n),
-    }
+    Ok((uplink_of(kind, v), codec::advance(a, n)))
 }
 
 // The number of an address.

@@ -1,9 +1,9 @@
 // What MAC-ACCESS and MAC-DATA begin with, clauses 21.4.2.1 and 21.4.2.3: PDU type 1 or 2, fill 1, encrypted 1, address type 2, address.
-ghost use Rattle.std.specs.Prelude.{◌≡◌, ◌+◌, ◌^◌, ◌≤◌, ◌<◌};
-ghost use Rattle.codec.specs.Ahead.{Ready, ReadsNext, Onward};
+ghost use Rattle.std.specs.Prelude.{◌≡◌, ◌+◌, ◌^◌, ◌≤◌, ◌<◌, Err};
+ghost use Rattle.codec.specs.Ahead.{Ready, ReadsNext};
 ghost use Rattle.codec.specs.Row.{RowIs};
 ghost use Rattle.tetra_fields.specs.UplinkAddress.{uplink_address_refusal};
-ghost use Rattle.tetra_fields.specs.UplinkHead.{behind_type, head_most, read_uplink_head, uplink_head_out, cut_off, body_size, uplink_size, uplink_body_row, uplink_refusal};
+ghost use Rattle.tetra_fields.specs.UplinkHead.{behind_type, head_most, read_uplink_head, body_size, uplink_size, uplink_body_row, uplink_refusal};
 
 use crate::fields::uplink_address;
 use codec::Ahead;
@@ -30,84 +30,50 @@ pub struct UplinkHead {
     pub addr: UplinkAddress,
 }
 
-// The head as a part of a header: why it is not read, or number 0; and what is ahead after it.
-#[derive(Clone, Copy)]
-pub struct UplinkHeadPart {
-    pub refusal: Refusal,
-    pub head: UplinkHead,
-    pub after: Ahead,
-}
-
-// What else a refused part holds is not looked at.
-fn refused(refusal: Refusal, a: Ahead) -> UplinkHeadPart
-    ensures { (result.refusal ≡ refusal) × (result.after ≡ a) }
-{
-    UplinkHeadPart {
-        refusal,
-        head: UplinkHead {
-            fill_bits: false,
-            encrypted: false,
-            addr: UplinkAddress::EventLabel(0),
-        },
-        after: a,
-    }
-}
-
 // Why the head that is ahead is not read, where the bits end before its address.
 fn cut_off(a: Ahead, w: usize) -> Refusal
     requires { Ready a head_most × (1 ≤ w) × (w ≤ 2) × (a.left < w + behind_type) }
-    ensures { ReadsNext cut_off (read_uplink_head w) a result × (result.number ≡ 0 → ⊥) }
+    ensures { ReadsNext (read_uplink_head w) a head_most (Err result) }
 {
-    let left = a.left;
-    let o = a.at;
-    if left < w {
-        return Refusal {
-            number: refusal::READ_PAST_END,
-            offset: o,
-        };
+    if a.left < w {
+        return codec::field_past_end(a.at);
     }
     if codec::next_bits(a, w) != 0 {
-        return Refusal {
-            number: refusal::WRONG_PDU_TYPE,
-            offset: o,
-        };
+        return wrong_type(a);
     }
-    let widths = [1u8, 1, 2];
-    codec::fields_past_end(&widths, left - w, o + w)
+    codec::fields_past_end(&[1, 1, 2], a.left - w, a.at + w)
 }
 
-// The head of a header whose PDU type has w bits, which is ahead.
-pub fn read_uplink_head(a: Ahead, w: usize) -> UplinkHeadPart
-    requires { Ready a head_most × (1 ≤ w) × (w ≤ 2) }
-    ensures { ReadsNext uplink_head_out (read_uplink_head w) a result × (result.refusal.number ≡ 0 → Onward a head_most result.after) }
+// The refusal of a header that is ahead, for its PDU type.
+fn wrong_type(a: Ahead) -> Refusal
+    ensures { result ≡ record { number = 4; offset = a.at } }
 {
-    let left = a.left;
-    let o = a.at;
+    Refusal {
+        number: refusal::WRONG_PDU_TYPE,
+        offset: a.at,
+    }
+}
+
+// The head that is ahead of a header whose PDU type has w bits, and what is ahead after it.
+pub fn read_uplink_head(a: Ahead, w: usize) -> Result<(UplinkHead, Ahead), Refusal>
+    requires { Ready a head_most × (1 ≤ w) × (w ≤ 2) }
+    ensures { ReadsNext (read_uplink_head w) a head_most result }
+{
     let n = w + BEHIND_TYPE;
-    if left < n {
-        return refused(cut_off(a, w), a);
+    if a.left < n {
+        return Err(cut_off(a, w));
     }
     let x = codec::next_bits(a, n);
     if x / TYPE != 0 {
-        let refusal = Refusal {
-            number: refusal::WRONG_PDU_TYPE,
-            offset: o,
-        };
-        return refused(refusal, a);
+        return Err(wrong_type(a));
     }
-    let part = uplink_address::read_uplink_address(codec::advance(a, n), x % 4);
-    let refusal = part.refusal;
-    let addr = part.addr;
-    let after = part.after;
-    UplinkHeadPart {
-        refusal,
-        head: UplinkHead {
-            fill_bits: x / FILL % 2 != 0,
-            encrypted: x / ENCRYPTED % 2 != 0,
-            addr,
-        },
-        after,
-    }
+    let (addr, after) = uplink_address::read_uplink_address(codec::advance(a, n), x % 4)?;
+    let head = UplinkHead {
+        fill_bits: x / FILL % 2 != 0,
+        encrypted: x / ENCRYPTED % 2 != 0,
+        addr,
+    };
+    Ok((head, after))
 }
 
 // The bits of a head whose PDU type has w bits.

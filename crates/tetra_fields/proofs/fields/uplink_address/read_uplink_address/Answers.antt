@@ -1,12 +1,14 @@
 use Rattle.codec.proofs.Laws.Header.{alone}
-use Rattle.codec.proofs.Laws.Ahead.{onward, onward-none, ahead_field-short}
-use Rattle.tetra_fields.specs.UplinkAddress.{read_uplink_address}
+use Rattle.codec.proofs.Laws.Ahead.{onward, ahead_field-short}
+use Rattle.tetra_fields.specs.UplinkAddress.{uplink_most, read_uplink_address}
 use Rattle.tetra_fields.proofs.fields.uplink_address.read_uplink_address.Goals as goal
 
-pub returns-then-left-n : goal.returns-then-left-n
+pub returns-then-a-n : goal.returns-then-a-n
 unfolding read_uplink_address
-returns-then-left-n c =
-    (record { of = λ h e. record { means = rw (← c.uplink_width-n.ensures.0, ahead_field-short c.uplink_width-n.result e c.if-left-n.true) } }, λ z. onward-none 24)
+returns-then-a-n c = record {
+  of = λ h e. record { means = rw (c.field_past_end.ensures, ← c.uplink_width-n.ensures.0, ahead_field-short c.uplink_width-n.result e c.if-a-n.true) };
+  onward = tt;
+}
 
 pub uplink_of-requires : goal.uplink_of-requires
 uplink_of-requires c = rw (← c.uplink_width-n.ensures.0) c.next_bits-v.ensures.small
@@ -14,7 +16,8 @@ uplink_of-requires c = rw (← c.uplink_width-n.ensures.0) c.next_bits-v.ensures
 pub returns : goal.returns
 unfolding read_uplink_address
 returns c =
-    let i = c.if-left-n.false in (
-      record { of = λ h e. record { means = rw (c.uplink_of.ensures, c.advance.ensures, ← c.uplink_width-n.ensures.0, alone (c.next_bits-v.ensures.word h e i)) } },
-      λ z. rw c.advance.ensures (onward c.uplink_width-n.result 24 c.uplink_width-n.ensures.2 i),
-    )
+    let i = c.if-a-n.false in
+    record {
+      of = λ h e. record { means = rw (c.uplink_of.ensures, c.advance.ensures, ← c.uplink_width-n.ensures.0, alone (c.next_bits-v.ensures.word h e i)) };
+      onward = rw c.advance.ensures (onward c.uplink_width-n.result uplink_most c.uplink_width-n.ensures.2 i);
+    }
