@@ -1,5 +1,5 @@
 -- The laws of specs/Ahead.antt.
-use Rattle.std.specs.Prelude.{ℕ, zero, suc, ◌+◌, ◌-◌, ◌/◌, ◌%◌, ◌^◌, ◌≤◌, ◌<◌, ◌≡◌, refl, List, [], ◌∷◌, ◌++◌, Bool, length, take, drop, Result, Ok, Err}
+use Rattle.std.specs.Prelude.{ℕ, zero, suc, ◌+◌, ◌-◌, ◌/◌, ◌%◌, ◌^◌, ◌≤◌, ◌<◌, ◌≡◌, refl, List, [], ◌∷◌, ◌++◌, Bool, length, take, drop, Result, Ok}
 use Rattle.std.proofs.Common.{sym, ap, ◌∙◌, append_assoc, arith, add_assoc, add-zero, mod-lt, length-append, length-take, length-drop, take-append-drop, length-take-le, take-take, drop-drop, take_at, drop_at, pow_pos, shr_lt}
 use Rattle.std.proofs.Math.Nat.{mod-mod}
 use Rattle.std.proofs.Math.Pow.{mod-mod-pow}
@@ -15,7 +15,7 @@ use Rattle.tetra_core.specs.declared.bitbuffer.Cursor.{Cursor}
 use Rattle.codec.specs.Header.{Word, within}
 use Rattle.codec.proofs.Laws.Header.{read, ends, word-there, length_left}
 use Rattle.codec.specs.declared.Ahead.{Ahead}
-use Rattle.codec.specs.Ahead.{next_bits, Held, ReadsNext, Ready, Onward, Denied, advanced, ending_in, Reads, part_out}
+use Rattle.codec.specs.Ahead.{next_bits, Held, ReadsNext, Ready, Onward, advanced, ending_in, Reads, part_out}
 use Rattle.tetra_core.specs.declared.refusal.Refusal.{Refusal}
 use Rattle.std.proofs.lemmas.Result.{IfOk-at_ok}
 
@@ -152,11 +152,6 @@ read-there {p = p} {a} n f e =
     let s = somewhere a in
     let i = rw (read (f.of s.header s.held) e) at (inside p (drop a.at s.header) a.at) in
     (i.0, omega (arith, s.held.bits, i.1))
-
--- what a part answers that is refused as another part in it is
-pub read-denied : {A : Type 0} {p : Reader A} {a : Ahead} {n : ℕ} {x : Result (A × Ahead) Refusal} (y : Refusal) → x ≡ Err y
-    → Denied p a y → ReadsNext p a n x
-read-denied y e f = rw e (record { of = λ h k. record { means = f.of h k }; onward = tt })
 
 -- where a part was read, what is ahead after it
 pub on-from : {A : Type 0} {p : Reader A} {a b : Ahead} {n : ℕ} {x : Result (A × Ahead) Refusal} {v : A} → ReadsNext p a n x → x ≡ Ok (v, b) → Onward a n b

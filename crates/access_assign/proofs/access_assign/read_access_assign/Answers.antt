@@ -2,7 +2,7 @@ use mathlib.Core.List.{[], ◌∷◌}
 use native.Mathlib.Omega.{arith}
 use Rattle.std.proofs.lemmas.Result.{err_from_is_err_and}
 use Rattle.codec.proofs.Laws.Header.{parsed_word}
-use Rattle.codec.proofs.Laws.Ahead.{ahead_short, onward, read-denied}
+use Rattle.codec.proofs.Laws.Ahead.{ahead_short, onward}
 use Rattle.access_assign.specs.AccessAssign.{assign_size, read_access_assign}
 use Rattle.access_assign.proofs.access_assign.read_access_assign.Goals as goal
 
@@ -17,8 +17,10 @@ pub returns-in_err-assign : goal.returns-in_err-assign
 unfolding read_access_assign
 returns-in_err-assign c =
     let d = err_from_is_err_and c.from_residual.result c.from_residual.ensures.1 in
-    read-denied d.0 d.1
-    (record { of = λ h e. rw (d.2, parsed_word read_access_assign (c.next_bits-x.ensures.word h e c.if-a-lt-SIZE.false)) (rw c.in_err-assign.was at c.access_assign_of.ensures _ _) })
+    rw (d.1, d.2) (record {
+      of = λ h e. record { means = rw (parsed_word read_access_assign (c.next_bits-x.ensures.word h e c.if-a-lt-SIZE.false)) (rw c.in_err-assign.was at c.access_assign_of.ensures _ _) };
+      onward = tt;
+    })
 
 pub returns : goal.returns
 unfolding read_access_assign

@@ -1,6 +1,6 @@
-use mathlib.Core.Path.{refl, ◌∙◌, sym}
+use mathlib.Core.Path.{◌∙◌, sym}
 use native.Mathlib.Omega.{arith}
-use Rattle.codec.proofs.Laws.Ahead.{ready_less, onward, onward-none, read-denied}
+use Rattle.codec.proofs.Laws.Ahead.{ready_less, onward, onward-none}
 use Rattle.mac_resource.specs.Address.{address_most, read_address}
 use Rattle.mac_resource.proofs.Words.{address-none, address_parsed, address-short}
 use Rattle.mac_resource.proofs.address.read_address.Goals as goal
@@ -13,8 +13,10 @@ returns-then-n-eq0 c =
 
 pub returns-then-a-n : goal.returns-then-a-n
 returns-then-a-n c =
-    read-denied _ refl
-    (record { of = λ h e. rw (c.fields_past_end.ensures, address-short c.args.t e (rw c.address_len-n.ensures.0 at c.if-a-n.true)) })
+    record {
+      of = λ h e. record { means = rw (c.fields_past_end.ensures, address-short c.args.t e (rw c.address_len-n.ensures.0 at c.if-a-n.true)) };
+      onward = tt;
+    }
 
 pub advance-requires : goal.advance-requires
 advance-requires c =
