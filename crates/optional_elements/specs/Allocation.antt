@@ -1,11 +1,9 @@
 -- Channel allocation (document 01): "three flags, each followed by its element if set: .. channel allocation."
 use Rattle.std.specs.Prelude.{ℕ, ◌+◌, List, [], ◌∷◌, Bool, None, Option, Some}
-use Rattle.codec.specs.Ahead.{part_after}
-use Rattle.codec.specs.Reader.{Out, Reader, done, ◌>>=◌}
+use Rattle.codec.specs.Reader.{Reader}
 use Rattle.codec.specs.Row.{Cell, cell}
 use Rattle.channel_allocation.specs.ChannelAllocation.{read_channel_allocation, len_refusal, channel_allocation_refusal, channel_allocation_bits, channel_allocation_most, channel_allocation_len, normal_channel_allocation}
 use Rattle.optional_elements.specs.Optional.{optional}
-use Rattle.optional_elements.specs.declared.allocation.AllocationPart.{AllocationPart}
 use Rattle.channel_allocation.specs.declared.channel_allocation.ChanAllocElement.{ChanAllocElement}
 
 -- ---- how many bits
@@ -24,17 +22,8 @@ allocation_len_refusal (Some e) = len_refusal e
 
 -- ---- what is read
 
-abbrev pub allocation_element : Reader (Option ChanAllocElement)
-allocation_element = do
-  e ← read_channel_allocation
-  done (Some e)
-
 unfoldable pub read_allocation : Reader (Option ChanAllocElement)
-read_allocation = optional allocation_element None
-
--- a part's answer as an outcome
-abbrev pub allocation_out : List Bool → AllocationPart → Out (Option ChanAllocElement)
-allocation_out h p = part_after p.refusal p.chan_alloc_element p.after h
+read_allocation = optional read_channel_allocation
 
 -- ---- what is written
 

@@ -4,13 +4,12 @@ use Rattle.tetra_core.specs.Refusal.{first}
 use Rattle.codec.specs.declared.Ahead.{Ahead}
 use Rattle.channel_allocation.specs.declared.channel_allocation.ChanAllocElement.{ChanAllocElement}
 use Rattle.tetra_fields.specs.declared.fields.basic_slotgrant.BasicSlotgrant.{BasicSlotgrant}
-use Rattle.codec.specs.Ahead.{next_bits, part_after}
-use Rattle.codec.specs.Reader.{Out, Reader, done, ◌>>=◌}
+use Rattle.codec.specs.Ahead.{next_bits}
+use Rattle.codec.specs.Reader.{Reader, done, ◌>>=◌}
 use Rattle.codec.specs.Row.{row_bits}
 use Rattle.optional_elements.specs.PowerControl.{power_most, power_len, read_power, power_refusal, power_row}
 use Rattle.optional_elements.specs.GrantAndAllocation.{grant_and_allocation_most, grant_and_allocation_len, read_grant_and_allocation, grant_and_allocation_refusal, grant_and_allocation_bits, normal_grant_and_allocation}
 use Rattle.optional_elements.specs.declared.elements.Elements.{Elements}
-use Rattle.optional_elements.specs.declared.elements.ElementsPart.{ElementsPart}
 
 -- ---- how many bits
 
@@ -58,10 +57,6 @@ read_elements = do
   power ← read_power
   behind ← read_grant_and_allocation
   done (record { power_control_element = power; grant_and_allocation = behind })
-
--- a part's answer as an outcome
-abbrev pub elements_out : List Bool → ElementsPart → Out Elements
-elements_out h p = part_after p.refusal p.elements p.after h
 
 -- ---- what is written
 

@@ -1,13 +1,11 @@
 -- Slot granting and channel allocation, one behind the other: the end of a MAC-RESOURCE's header, and of a MAC-END's.
 use Rattle.std.specs.Prelude.{ℕ, ◌+◌, List, [], ◌∷◌, ◌++◌, Bool}
 use Rattle.tetra_core.specs.Refusal.{first}
-use Rattle.codec.specs.Ahead.{part_after}
-use Rattle.codec.specs.Reader.{Out, Reader, done, ◌>>=◌}
+use Rattle.codec.specs.Reader.{Reader, done, ◌>>=◌}
 use Rattle.codec.specs.Row.{row_bits}
 use Rattle.optional_elements.specs.SlotGranting.{granting_most, granting_len, read_granting, granting_refusal, granting_row}
 use Rattle.optional_elements.specs.Allocation.{allocation_most, allocation_len, read_allocation, allocation_refusal, flag_row, allocation_bits, normal_allocation}
 use Rattle.optional_elements.specs.declared.grant_and_allocation.GrantAndAllocation.{GrantAndAllocation}
-use Rattle.optional_elements.specs.declared.grant_and_allocation.GrantAndAllocationPart.{GrantAndAllocationPart}
 
 -- ---- how many bits
 
@@ -24,10 +22,6 @@ read_grant_and_allocation = do
   granting ← read_granting
   allocation ← read_allocation
   done (record { slot_granting_element = granting; chan_alloc_element = allocation })
-
--- a part's answer as an outcome
-abbrev pub grant_and_allocation_out : List Bool → GrantAndAllocationPart → Out GrantAndAllocation
-grant_and_allocation_out h p = part_after p.refusal p.elements p.after h
 
 -- ---- what is written
 

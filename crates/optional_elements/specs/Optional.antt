@@ -1,8 +1,13 @@
 -- A flag, and the element if it is set.
+use Rattle.std.specs.Prelude.{None, Option, Some}
 use Rattle.codec.specs.Reader.{Reader, done, field, choose, ◌>>=◌}
 use Rattle.codec.specs.Cases.{flag}
 
-unfoldable pub optional : {A : Type 0} → Reader A → A → Reader A
-optional element without = do
+unfoldable pub optional : {A : Type 0} → Reader A → Reader (Option A)
+optional element = do
   present ← field 1 done
-  choose (flag present) element (done without)
+  choose (flag present)
+      (do
+        e ← element
+        done (Some e))
+      (done None)

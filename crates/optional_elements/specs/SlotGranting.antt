@@ -1,11 +1,9 @@
 -- Slot granting (document 01): "three flags, each followed by its element if set: .. slot grant 8".
-use Rattle.std.specs.Prelude.{ℕ, ◌+◌, List, [], ◌∷◌, Bool, None, Option, Some}
-use Rattle.codec.specs.Ahead.{part_after}
-use Rattle.codec.specs.Reader.{Out, Reader, done, ◌>>=◌}
+use Rattle.std.specs.Prelude.{ℕ, ◌+◌, List, [], ◌∷◌, None, Option, Some}
+use Rattle.codec.specs.Reader.{Reader}
 use Rattle.codec.specs.Row.{Cell, cell}
 use Rattle.tetra_fields.specs.BasicSlotgrant.{read_slotgrant, slotgrant_refusal, slotgrant_row}
 use Rattle.optional_elements.specs.Optional.{optional}
-use Rattle.optional_elements.specs.declared.slot_granting.GrantingPart.{GrantingPart}
 use Rattle.tetra_fields.specs.declared.fields.basic_slotgrant.BasicSlotgrant.{BasicSlotgrant}
 
 -- ---- how many bits
@@ -19,17 +17,8 @@ granting_len (Some g) = granting_most
 
 -- ---- what is read
 
-abbrev pub granting_element : Reader (Option BasicSlotgrant)
-granting_element = do
-  g ← read_slotgrant
-  done (Some g)
-
 unfoldable pub read_granting : Reader (Option BasicSlotgrant)
-read_granting = optional granting_element None
-
--- a part's answer as an outcome
-abbrev pub granting_out : List Bool → GrantingPart → Out (Option BasicSlotgrant)
-granting_out h p = part_after p.refusal p.slot_granting_element p.after h
+read_granting = optional read_slotgrant
 
 -- ---- what is written
 

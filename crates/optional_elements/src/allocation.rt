@@ -1,53 +1,23 @@
 // Clause 21.4.3.1, channel allocation: a flag and, where it is set, the element of clause 21.5.2.
 ghost use Rattle.std.specs.Prelude.{◌≡◌, ◌++◌, ◌≤◌};
-ghost use Rattle.codec.specs.Ahead.{Ready, ReadsNext, Onward};
+ghost use Rattle.codec.specs.Ahead.{Ready, ReadsNext};
 ghost use Rattle.codec.specs.Row.{row_bits};
 ghost use Rattle.codec.specs.Piece.{Holds};
-ghost use Rattle.optional_elements.specs.Allocation.{allocation_most, read_allocation, allocation_out, allocation_refusal, allocation_len, allocation_len_refusal, flag_row, allocation_bits};
+ghost use Rattle.optional_elements.specs.Allocation.{allocation_most, read_allocation, allocation_refusal, allocation_len, allocation_len_refusal, flag_row, allocation_bits};
 
+use crate::optional;
 use channel_allocation::channel_allocation as element;
 use channel_allocation::channel_allocation::ChanAllocElement;
 use codec::piece::Piece;
 use codec::{Ahead, piece};
 use tetra_core::refusal::Refusal;
 
-// The channel allocation as a part of a header: why it is not read, or number 0; and what is ahead after it.
-#[derive(Clone, Copy)]
-pub struct AllocationPart {
-    pub refusal: Refusal,
-    pub chan_alloc_element: Option<ChanAllocElement>,
-    pub after: Ahead,
-}
-
-// The channel allocation flag that is ahead, and the element where it is set.
-pub fn read_allocation(a: Ahead) -> AllocationPart
+// The channel allocation flag that is ahead, and the element where it is set; and what is ahead after them.
+pub fn read_allocation(a: Ahead) -> Result<(Option<ChanAllocElement>, Ahead), Refusal>
     requires { Ready a allocation_most }
-    ensures { ReadsNext allocation_out read_allocation a result × (result.refusal.number ≡ 0 → Onward a allocation_most result.after) }
+    ensures { ReadsNext read_allocation a allocation_most result }
 {
-    if a.left < 1 {
-        return AllocationPart {
-            refusal: codec::field_past_end(a.at),
-            chan_alloc_element: None,
-            after: a,
-        };
-    }
-    let b = codec::advance(a, 1);
-    if codec::next_bits(a, 1) == 0 {
-        return AllocationPart {
-            refusal: codec::no_refusal(),
-            chan_alloc_element: None,
-            after: b,
-        };
-    }
-    let part = element::read_channel_allocation(b);
-    let refusal = part.refusal;
-    let element = part.element;
-    let after = part.after;
-    AllocationPart {
-        refusal,
-        chan_alloc_element: Some(element),
-        after,
-    }
+    optional::read_optional(a, element::read_channel_allocation)
 }
 
 // Why it is not written, or 0.

@@ -1,11 +1,11 @@
 // Clause 21.4.3.1, the optional elements of MAC-RESOURCE: power control, then slot granting and channel allocation.
 ghost use Rattle.std.specs.Prelude.{◌≡◌, ◌≤◌, length};
 ghost use Rattle.tetra_core.specs.Laws.Windows.{Good};
-ghost use Rattle.codec.specs.Header.{within, Reads};
-ghost use Rattle.codec.specs.Ahead.{Held, Ready, ReadsNext};
+ghost use Rattle.codec.specs.Header.{within};
+ghost use Rattle.codec.specs.Ahead.{Held, Ready, Reads, ReadsNext};
 ghost use Rattle.codec.specs.Piece.{Holds};
 ghost use Rattle.codec.specs.Encoded.{EncodesOne};
-ghost use Rattle.optional_elements.specs.Elements.{no_elements, flags_len, elements_most, no_element, is_bare, read_elements, elements_out, elements_refusal, elements_len, elements_bits};
+ghost use Rattle.optional_elements.specs.Elements.{no_elements, flags_len, elements_most, no_element, is_bare, read_elements, elements_refusal, elements_len, elements_bits};
 
 use crate::grant_and_allocation::GrantAndAllocation;
 use crate::{grant_and_allocation, power_control};
@@ -27,14 +27,6 @@ pub struct Elements {
     pub grant_and_allocation: GrantAndAllocation,
 }
 
-// The elements as a part of a header: why they are not read, or number 0; and what is ahead after them.
-#[derive(Clone, Copy)]
-pub struct ElementsPart {
-    pub refusal: Refusal,
-    pub elements: Elements,
-    pub after: Ahead,
-}
-
 fn no_elements() -> Elements
     ensures { result ≡ no_elements }
 {
@@ -47,33 +39,18 @@ fn no_elements() -> Elements
     }
 }
 
-// The three flags that are ahead, one by one, each with its element.
-fn read_each(a: Ahead) -> ElementsPart
+// The three flags that are ahead, one by one, each with its element; and what is ahead after them.
+fn read_each(a: Ahead) -> Result<(Elements, Ahead), Refusal>
     requires { Ready a elements_most }
-    ensures { ReadsNext elements_out read_elements a result }
+    ensures { ReadsNext read_elements a elements_most result }
 {
-    let power = power_control::read_power(a);
-    let no_power = power.refusal;
-    let power_control_element = power.power_control_element;
-    if no_power.number != 0 {
-        return ElementsPart {
-            refusal: no_power,
-            elements: no_elements(),
-            after: a,
-        };
-    }
-    let behind = grant_and_allocation::read_grant_and_allocation(power.after);
-    let refusal = behind.refusal;
-    let grant_and_allocation = behind.elements;
-    let after = behind.after;
-    ElementsPart {
-        refusal,
-        elements: Elements {
-            power_control_element,
-            grant_and_allocation,
-        },
-        after,
-    }
+    let (power_control_element, behind) = power_control::read_power(a)?;
+    let (grant_and_allocation, after) = grant_and_allocation::read_grant_and_allocation(behind)?;
+    let elements = Elements {
+        power_control_element,
+        grant_and_allocation,
+    };
+    Ok((elements, after))
 }
 
 // Whether the three flags that are ahead are there and none of them is set.
@@ -89,16 +66,12 @@ fn no_element(a: Ahead) -> bool
 
 // The elements that are ahead. Most headers have none: then the three flags are one word. The other case is called from here alone, so that
 // the compiler puts it here and no element goes through memory.
-pub fn read_elements(s: &[u8], c: Cursor, a: Ahead) -> ElementsPart
+pub fn read_elements(s: &[u8], c: Cursor, a: Ahead) -> Result<(Elements, Ahead), Refusal>
     requires { Good (length s.now) c × Held (within s.now c) a × Ready a flags_len }
-    ensures { Reads elements_out read_elements (within s.now c) a.at result }
+    ensures { Reads read_elements (within s.now c) a.at result }
 {
     if no_element(a) {
-        return ElementsPart {
-            refusal: codec::no_refusal(),
-            elements: no_elements(),
-            after: codec::advance(a, FLAGS),
-        };
+        return Ok((no_elements(), codec::advance(a, FLAGS)));
     }
     read_each(codec::load(s, c, a.at))
 }

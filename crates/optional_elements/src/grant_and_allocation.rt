@@ -1,8 +1,8 @@
 // Slot granting and channel allocation, one behind the other: what MAC-RESOURCE (clause 21.4.3.1) and MAC-END (21.4.3.3) end with.
 ghost use Rattle.std.specs.Prelude.{◌≡◌, ◌≤◌};
-ghost use Rattle.codec.specs.Ahead.{Ready, ReadsNext, Onward};
+ghost use Rattle.codec.specs.Ahead.{Ready, ReadsNext};
 ghost use Rattle.codec.specs.Piece.{Holds};
-ghost use Rattle.optional_elements.specs.GrantAndAllocation.{grant_and_allocation_most, read_grant_and_allocation, grant_and_allocation_out, grant_and_allocation_refusal, grant_and_allocation_len, grant_and_allocation_bits};
+ghost use Rattle.optional_elements.specs.GrantAndAllocation.{grant_and_allocation_most, read_grant_and_allocation, grant_and_allocation_refusal, grant_and_allocation_len, grant_and_allocation_bits};
 
 use crate::{allocation, slot_granting};
 use channel_allocation::channel_allocation::ChanAllocElement;
@@ -20,51 +20,18 @@ pub struct GrantAndAllocation {
     pub chan_alloc_element: Option<ChanAllocElement>,
 }
 
-// Both as a part of a header: why they are not read, or number 0; and what is ahead after them.
-#[derive(Clone, Copy)]
-pub struct GrantAndAllocationPart {
-    pub refusal: Refusal,
-    pub elements: GrantAndAllocation,
-    pub after: Ahead,
-}
-
-// What else a refused part holds is not looked at.
-fn refused(refusal: Refusal, after: Ahead) -> GrantAndAllocationPart
-    ensures { result.refusal ≡ refusal }
-{
-    GrantAndAllocationPart {
-        refusal,
-        elements: GrantAndAllocation {
-            slot_granting_element: None,
-            chan_alloc_element: None,
-        },
-        after,
-    }
-}
-
-// The two flags that are ahead, each with its element.
-pub fn read_grant_and_allocation(a: Ahead) -> GrantAndAllocationPart
+// The two flags that are ahead, each with its element; and what is ahead after them.
+pub fn read_grant_and_allocation(a: Ahead) -> Result<(GrantAndAllocation, Ahead), Refusal>
     requires { Ready a grant_and_allocation_most }
-    ensures { ReadsNext grant_and_allocation_out read_grant_and_allocation a result × (result.refusal.number ≡ 0 → Onward a grant_and_allocation_most result.after) }
+    ensures { ReadsNext read_grant_and_allocation a grant_and_allocation_most result }
 {
-    let granting = slot_granting::read_granting(a);
-    let no_granting = granting.refusal;
-    let slot_granting_element = granting.slot_granting_element;
-    if no_granting.number != 0 {
-        return refused(no_granting, a);
-    }
-    let allocation = allocation::read_allocation(granting.after);
-    let refusal = allocation.refusal;
-    let chan_alloc_element = allocation.chan_alloc_element;
-    let after = allocation.after;
-    GrantAndAllocationPart {
-        refusal,
-        elements: GrantAndAllocation {
-            slot_granting_element,
-            chan_alloc_element,
-        },
-        after,
-    }
+    let (slot_granting_element, behind) = slot_granting::read_granting(a)?;
+    let (chan_alloc_element, after) = allocation::read_allocation(behind)?;
+    let elements = GrantAndAllocation {
+        slot_granting_element,
+        chan_alloc_element,
+    };
+    Ok((elements, after))
 }
 
 // Why they are not written, or 0.

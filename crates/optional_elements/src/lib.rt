@@ -4,5 +4,6 @@
 pub mod allocation;
 pub mod elements;
 pub mod grant_and_allocation;
+mod optional;
 pub mod power_control;
 pub mod slot_granting;

@@ -1,10 +1,11 @@
 // Clause 21.4.3.1, power control: a flag and, where it is set, an element of 4 bits.
 ghost use Rattle.std.specs.Prelude.{◌≡◌, ◌≤◌};
-ghost use Rattle.codec.specs.Ahead.{Ready, ReadsNext, Onward};
+ghost use Rattle.codec.specs.Ahead.{Ready, ReadsNext};
 ghost use Rattle.codec.specs.Row.{row_bits};
 ghost use Rattle.codec.specs.Piece.{Holds};
-ghost use Rattle.optional_elements.specs.PowerControl.{power_most, read_power, power_out, power_refusal, power_len, power_row};
+ghost use Rattle.optional_elements.specs.PowerControl.{level_len, power_most, read_level, read_power, power_refusal, power_len, power_row};
 
+use crate::optional;
 use codec::Ahead;
 use codec::piece::Piece;
 use tetra_core::refusal;
@@ -17,51 +18,24 @@ const POWER_BITS: usize = 1 + LEVEL_BITS;
 
 const FLAG: u64 = 1 << 4;
 
-// The power control as a part of a header: why it is not read, or number 0; and what is ahead after it.
-#[derive(Clone, Copy)]
-pub struct PowerPart {
-    pub refusal: Refusal,
-    pub power_control_element: Option<u8>,
-    pub after: Ahead,
-}
-
-// What else a refused part holds is not looked at.
-fn past_end(offset: usize, after: Ahead) -> PowerPart
-    ensures { result.refusal ≡ record { number = 1; offset = offset } }
+// The level that is ahead, and what is ahead after it.
+fn read_level(a: Ahead) -> Result<(u8, Ahead), Refusal>
+    requires { Ready a level_len }
+    ensures { ReadsNext read_level a level_len result }
 {
-    PowerPart {
-        refusal: codec::field_past_end(offset),
-        power_control_element: None,
-        after,
+    if a.left < LEVEL_BITS {
+        return Err(codec::field_past_end(a.at));
     }
+    let level = codec::next_bits(a, LEVEL_BITS);
+    Ok((level as u8, codec::advance(a, LEVEL_BITS)))
 }
 
-// The power control flag that is ahead, and the element where it is set.
-pub fn read_power(a: Ahead) -> PowerPart
+// The power control flag that is ahead, and the level where it is set; and what is ahead after them.
+pub fn read_power(a: Ahead) -> Result<(Option<u8>, Ahead), Refusal>
     requires { Ready a power_most }
-    ensures { ReadsNext power_out read_power a result × (result.refusal.number ≡ 0 → Onward a power_most result.after) }
+    ensures { ReadsNext read_power a power_most result }
 {
-    let left = a.left;
-    if left < 1 {
-        return past_end(a.at, a);
-    }
-    let b = codec::advance(a, 1);
-    if codec::next_bits(a, 1) == 0 {
-        return PowerPart {
-            refusal: codec::no_refusal(),
-            power_control_element: None,
-            after: b,
-        };
-    }
-    if left < POWER_BITS {
-        return past_end(b.at, a);
-    }
-    let level = codec::next_bits(b, LEVEL_BITS);
-    PowerPart {
-        refusal: codec::no_refusal(),
-        power_control_element: Some(level as u8),
-        after: codec::advance(b, LEVEL_BITS),
-    }
+    optional::read_optional(a, read_level)
 }
 
 // Why it is not written, or 0.

@@ -1,10 +1,11 @@
 // Clause 21.4.3.1, slot granting: a flag and, where it is set, a basic slot grant of 8 bits.
 ghost use Rattle.std.specs.Prelude.{◌≡◌, ◌≤◌};
-ghost use Rattle.codec.specs.Ahead.{Ready, ReadsNext, Onward};
+ghost use Rattle.codec.specs.Ahead.{Ready, ReadsNext};
 ghost use Rattle.codec.specs.Row.{row_bits};
 ghost use Rattle.codec.specs.Piece.{Holds};
-ghost use Rattle.optional_elements.specs.SlotGranting.{granting_most, read_granting, granting_out, granting_refusal, granting_len, granting_row};
+ghost use Rattle.optional_elements.specs.SlotGranting.{granting_most, read_granting, granting_refusal, granting_len, granting_row};
 
+use crate::optional;
 use codec::Ahead;
 use codec::piece::Piece;
 use tetra_core::refusal::Refusal;
@@ -18,52 +19,12 @@ const GRANTING_BITS: usize = 1 + GRANT_BITS;
 
 const FLAG: u64 = 1 << 8;
 
-// The slot granting as a part of a header: why it is not read, or number 0; and what is ahead after it.
-#[derive(Clone, Copy)]
-pub struct GrantingPart {
-    pub refusal: Refusal,
-    pub slot_granting_element: Option<BasicSlotgrant>,
-    pub after: Ahead,
-}
-
-// What else a refused part holds is not looked at.
-fn refused(refusal: Refusal, after: Ahead) -> GrantingPart
-    ensures { result.refusal ≡ refusal }
-{
-    GrantingPart {
-        refusal,
-        slot_granting_element: None,
-        after,
-    }
-}
-
-// The slot granting flag that is ahead, and the element where it is set.
-pub fn read_granting(a: Ahead) -> GrantingPart
+// The slot granting flag that is ahead, and the element where it is set; and what is ahead after them.
+pub fn read_granting(a: Ahead) -> Result<(Option<BasicSlotgrant>, Ahead), Refusal>
     requires { Ready a granting_most }
-    ensures { ReadsNext granting_out read_granting a result × (result.refusal.number ≡ 0 → Onward a granting_most result.after) }
+    ensures { ReadsNext read_granting a granting_most result }
 {
-    if a.left < 1 {
-        return refused(codec::field_past_end(a.at), a);
-    }
-    let b = codec::advance(a, 1);
-    if codec::next_bits(a, 1) == 0 {
-        return GrantingPart {
-            refusal: codec::no_refusal(),
-            slot_granting_element: None,
-            after: b,
-        };
-    }
-    let part = basic_slotgrant::read_slotgrant(b);
-    let refusal = part.refusal;
-    let grant = part.grant;
-    if refusal.number != 0 {
-        return refused(refusal, a);
-    }
-    GrantingPart {
-        refusal,
-        slot_granting_element: Some(grant),
-        after: codec::advance(b, GRANT_BITS),
-    }
+    optional::read_optional(a, basic_slotgrant::read_slotgrant)
 }
 
 // Why it is not written, or 0.

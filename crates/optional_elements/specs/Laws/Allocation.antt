@@ -2,14 +2,12 @@
 use Rattle.std.specs.Prelude.{ℕ, ◌+◌, ◌≤◌, ◌≡◌, refl, List, [], ◌++◌, Bool, length, None, Option, Some}
 use Rattle.std.proofs.Common.{ap, append-nil, arith, add_assoc, lit≤, length-append}
 use Rattle.codec.specs.Reader.{got, parse}
-use Rattle.codec.proofs.Laws.Reader.{parse_bind}
 use Rattle.codec.specs.Row.{row_bits}
 use Rattle.codec.proofs.Laws.Row.{length_row}
 use Rattle.codec.specs.WrittenAgain.{Every}
-use Rattle.codec.proofs.Laws.WrittenAgain.{every_bind}
 use Rattle.channel_allocation.specs.ChannelAllocation.{read_channel_allocation, channel_allocation_bits}
 use Rattle.channel_allocation.specs.Laws.ChannelAllocation.{channel_allocation-length, channel_allocation-len, channel_allocation-back, ChannelAllocationAgain, channel_allocation_every}
-use Rattle.optional_elements.specs.Allocation.{allocation_most, allocation_len, allocation_element, read_allocation, allocation_refusal, flag_row, allocation_bits, normal_allocation}
+use Rattle.optional_elements.specs.Allocation.{allocation_most, allocation_len, read_allocation, allocation_refusal, flag_row, allocation_bits, normal_allocation}
 use Rattle.optional_elements.specs.Laws.Optional.{optional-zero, optional-one, optional_every}
 use Rattle.channel_allocation.specs.declared.channel_allocation.ChanAllocElement.{ChanAllocElement}
 
@@ -24,9 +22,9 @@ allocation-bounds (Some e) = let n = channel_allocation-len e in (omega arith, o
 pub allocation-back : (a : Option ChanAllocElement) → allocation_refusal a ≡ 0 → (rest : List Bool) (o : ℕ)
     → parse read_allocation (row_bits (flag_row a) ++ (allocation_bits a ++ rest)) o ≡ got (normal_allocation a) rest (o + allocation_len a)
 unfolding read_allocation row_bits
-allocation-back None e rest o = optional-zero allocation_element None rest o
+allocation-back None e rest o = optional-zero read_channel_allocation rest o
 allocation-back (Some a) e rest o =
-    rw (optional-one allocation_element None [] (channel_allocation_bits a ++ rest) o, parse_bind, channel_allocation-back a e rest (o + 1), add_assoc)
+    rw (optional-one read_channel_allocation [] (channel_allocation_bits a ++ rest) o, channel_allocation-back a e rest (o + 1), add_assoc)
 
 -- it is not refused, it is in normal form, and its bits are xs
 abbrev pub AllocationAgain : Option ChanAllocElement → List Bool → Type 0
@@ -35,7 +33,6 @@ AllocationAgain a xs = (allocation_refusal a ≡ 0) × (normal_allocation a ≡ 
 pub allocation_every : Every read_allocation AllocationAgain
 unfolding read_allocation row_bits
 allocation_every =
-    optional_every AllocationAgain allocation_element None
-    (every_bind read_channel_allocation _ ChannelAllocationAgain _ channel_allocation_every
-    (λ e xs h. (h.0, ap Some h.1, rw (append-nil, append-nil, h.2))))
+    optional_every ChannelAllocationAgain AllocationAgain read_channel_allocation channel_allocation_every
+    (λ e xs h. (h.0, ap Some h.1, rw (append-nil, h.2)))
     (refl, refl, append-nil _)

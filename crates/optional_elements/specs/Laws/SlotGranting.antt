@@ -1,15 +1,13 @@
 -- Slot granting: how long it is, what was written is read back, and what was read is written again.
 use Rattle.std.specs.Prelude.{ℕ, ◌+◌, ◌≤◌, ◌≡◌, refl, List, ◌++◌, Bool, length, None, Option, Some}
-use Rattle.std.proofs.Common.{append-nil, add_assoc, lit≤}
+use Rattle.std.proofs.Common.{add_assoc, lit≤}
 use Rattle.codec.specs.Reader.{got, parse}
-use Rattle.codec.proofs.Laws.Reader.{parse_bind}
 use Rattle.codec.specs.Row.{row_bits}
 use Rattle.codec.proofs.Laws.Row.{length_row}
 use Rattle.codec.specs.WrittenAgain.{Every}
-use Rattle.codec.proofs.Laws.WrittenAgain.{every_bind}
 use Rattle.tetra_fields.specs.BasicSlotgrant.{read_slotgrant, slotgrant_row}
 use Rattle.tetra_fields.specs.Laws.BasicSlotgrant.{slotgrant_back, SlotgrantAgain, slotgrant_every}
-use Rattle.optional_elements.specs.SlotGranting.{granting_most, granting_len, granting_element, read_granting, granting_refusal, granting_row}
+use Rattle.optional_elements.specs.SlotGranting.{granting_most, granting_len, read_granting, granting_refusal, granting_row}
 use Rattle.optional_elements.specs.Laws.Optional.{optional-zero, optional-one, optional_every}
 use Rattle.tetra_fields.specs.declared.fields.basic_slotgrant.BasicSlotgrant.{BasicSlotgrant}
 
@@ -25,9 +23,9 @@ granting-bounds (Some g) = (lit≤ tt, lit≤ tt)
 pub granting-back : (g : Option BasicSlotgrant) → granting_refusal g ≡ 0 → (rest : List Bool) (o : ℕ)
     → parse read_granting (row_bits (granting_row g) ++ rest) o ≡ got g rest (o + granting_len g)
 unfolding read_granting
-granting-back None e rest o = optional-zero granting_element None rest o
+granting-back None e rest o = optional-zero read_slotgrant rest o
 granting-back (Some g) e rest o =
-    rw (optional-one granting_element None (slotgrant_row g) rest o, parse_bind, slotgrant_back g e rest (o + 1), add_assoc)
+    rw (optional-one read_slotgrant (slotgrant_row g) rest o, slotgrant_back g e rest (o + 1), add_assoc)
 
 -- it is not refused, and its bits are xs
 abbrev pub GrantingAgain : Option BasicSlotgrant → List Bool → Type 0
@@ -35,7 +33,4 @@ GrantingAgain g xs = (granting_refusal g ≡ 0) × (row_bits (granting_row g) �
 
 pub granting_every : Every read_granting GrantingAgain
 unfolding read_granting row_bits
-granting_every =
-    optional_every GrantingAgain granting_element None
-    (every_bind read_slotgrant _ SlotgrantAgain _ slotgrant_every (λ g xs h. (h.0, rw (h.1, append-nil))))
-    (refl, refl)
+granting_every = optional_every SlotgrantAgain GrantingAgain read_slotgrant slotgrant_every (λ g xs h. (h.0, rw h.1)) (refl, refl)

@@ -1,37 +1,57 @@
-use mathlib.Core.Path.{refl}
 use native.Mathlib.Omega.{arith}
-use borrow.Author.Tests.{eq-eqb, ne_eqb}
-use Rattle.codec.proofs.Laws.Header.{read, next-part}
+use Rattle.std.proofs.lemmas.Result.{err_from_is_err_and}
 use Rattle.codec.proofs.Laws.Reader.{parse_bind}
-use Rattle.codec.proofs.Laws.Ahead.{ready_less}
+use Rattle.codec.proofs.Laws.Header.{read}
+use Rattle.codec.proofs.Laws.Ahead.{ready_less, onward_then, on-from}
 use Rattle.optional_elements.specs.PowerControl.{power_most}
 use Rattle.optional_elements.specs.GrantAndAllocation.{grant_and_allocation_most}
-use Rattle.optional_elements.specs.Elements.{read_elements}
+use Rattle.optional_elements.specs.Elements.{elements_most, read_elements}
 use Rattle.optional_elements.proofs.elements.read_each.Goals as goal
 
-pub returns-then-no_power-ne0 : goal.returns-then-no_power-ne0
-unfolding read_elements
-returns-then-no_power-ne0 c =
-    record { of = λ h e. record { means = rw (parse_bind, read (c.read_power-power.ensures.0.of h e) refl, ne_eqb _ _ c.if-no_power-ne0.true) } }
+pub read_power-requires : goal.read_power-requires
+read_power-requires c = ready_less power_most c.requires (omega arith)
 
-pub read_grant_and_allocation-behind-requires : goal.read_grant_and_allocation-behind-requires
-read_grant_and_allocation-behind-requires c = (c.read_power-power.ensures.1 c.if-no_power-ne0.false).ready grant_and_allocation_most c.requires
+pub returns-in_err-power_control_element : goal.returns-in_err-power_control_element
+unfolding read_elements
+returns-in_err-power_control_element c =
+    let d = err_from_is_err_and c.from_residual.result c.from_residual.ensures.1 in
+    rw (d.1, d.2) (record {
+      of = λ h e. record { means = rw (parse_bind, read (c.read_power.ensures.of h e) c.in_err-power_control_element.was) };
+      onward = tt;
+    })
+
+pub read_grant_and_allocation-requires : goal.read_grant_and_allocation-requires
+read_grant_and_allocation-requires c = (on-from c.read_power.ensures c.in_ok-power_control_element.was).ready grant_and_allocation_most c.requires
+
+pub returns-in_err-grant_and_allocation : goal.returns-in_err-grant_and_allocation
+unfolding read_elements
+returns-in_err-grant_and_allocation c =
+    let o = on-from c.read_power.ensures c.in_ok-power_control_element.was in
+    let d = err_from_is_err_and c.from_residual-in_err-grant_and_allocation.result c.from_residual-in_err-grant_and_allocation.ensures.1 in
+    rw (d.1, d.2) (record {
+      of = λ h e. record {
+        means = rw (
+          parse_bind,
+          read (c.read_power.ensures.of h e) c.in_ok-power_control_element.was,
+          parse_bind,
+          read (c.read_grant_and_allocation.ensures.of h (o.held h e)) c.in_err-grant_and_allocation.was,
+        );
+      };
+      onward = tt;
+    })
 
 pub returns : goal.returns
 unfolding read_elements
 returns c =
+    let o = on-from c.read_power.ensures c.in_ok-power_control_element.was in
     record {
       of = λ h e. record {
         means = rw (
           parse_bind,
-          read (c.read_power-power.ensures.0.of h e) refl,
-          eq-eqb _ _ c.if-no_power-ne0.false,
+          read (c.read_power.ensures.of h e) c.in_ok-power_control_element.was,
           parse_bind,
-          read (c.read_grant_and_allocation-behind.ensures.0.of h ((c.read_power-power.ensures.1 c.if-no_power-ne0.false).held h e)) refl,
-          next-part,
+          read (c.read_grant_and_allocation.ensures.of h (o.held h e)) c.in_ok-grant_and_allocation.was,
         );
       };
+      onward = onward_then elements_most o (on-from c.read_grant_and_allocation.ensures c.in_ok-grant_and_allocation.was) (omega arith);
     }
-
-pub read_power-power-requires : goal.read_power-power-requires
-read_power-power-requires c = ready_less power_most c.requires (omega arith)

@@ -9,7 +9,7 @@ use Rattle.optional_elements.specs.PowerControl.{read_power}
 use Rattle.optional_elements.specs.SlotGranting.{read_granting}
 use Rattle.optional_elements.specs.Allocation.{read_allocation}
 use Rattle.optional_elements.specs.GrantAndAllocation.{read_grant_and_allocation}
-use Rattle.optional_elements.specs.Elements.{flags_len, elements_most, read_elements, elements_out}
+use Rattle.optional_elements.specs.Elements.{flags_len, elements_most, read_elements}
 use Rattle.optional_elements.specs.Laws.Elements.{flags_clear}
 use Rattle.optional_elements.proofs.elements.read_elements.Goals.{Then-no_element}
 use Rattle.optional_elements.proofs.elements.read_elements.Goals as goal
@@ -22,12 +22,12 @@ clear c = flags_clear c.requires.1 c.requires.2 (sym c.no_element.ensures ∙ c.
 pub returns-then-no_element : goal.returns-then-no_element
 unfolding read_elements read_power read_grant_and_allocation read_granting read_allocation optional
 returns-then-no_element c =
-    record { means = rw (c.no_refusal.ensures, c.no_elements.ensures, c.advance.ensures, parsed_word read_elements (clear (goal.at.returns-then-no_element c).Then-no_element).0) }
+    record { means = rw (c.no_elements.ensures, c.advance.ensures, parsed_word read_elements (clear (goal.at.returns-then-no_element c).Then-no_element).0) }
 
 pub returns : goal.returns
 returns c =
     let l = c.load.ensures in
-    record { means = sym (next-read (λ _. elements_out) c.read_each.ensures l.0 l.2 refl) }
+    record { means = sym (next-read c.read_each.ensures l.0 l.2 refl) }
 
 pub advance-requires : goal.advance-requires
 advance-requires c = (c.requires.2, (clear (goal.at.advance-requires c).Then-no_element).1)

@@ -1,42 +1,57 @@
-use mathlib.Core.Path.{refl}
 use native.Mathlib.Omega.{arith}
-use borrow.Author.Tests.{eq-eqb, ne_eqb}
-use Rattle.codec.proofs.Laws.Header.{read, next-part}
+use Rattle.std.proofs.lemmas.Result.{err_from_is_err_and}
 use Rattle.codec.proofs.Laws.Reader.{parse_bind}
-use Rattle.codec.proofs.Laws.Ahead.{ready_less, onward_then}
+use Rattle.codec.proofs.Laws.Header.{read}
+use Rattle.codec.proofs.Laws.Ahead.{ready_less, onward_then, on-from}
 use Rattle.optional_elements.specs.SlotGranting.{granting_most}
 use Rattle.optional_elements.specs.Allocation.{allocation_most}
 use Rattle.optional_elements.specs.GrantAndAllocation.{grant_and_allocation_most, read_grant_and_allocation}
 use Rattle.optional_elements.proofs.grant_and_allocation.read_grant_and_allocation.Goals as goal
 
-pub returns-then-no_granting-ne0 : goal.returns-then-no_granting-ne0
-unfolding read_grant_and_allocation
-returns-then-no_granting-ne0 c = (
-  record { of = λ h e. record { means = rw (c.refused.ensures, parse_bind, read (c.read_granting-granting.ensures.0.of h e) refl, ne_eqb _ _ c.if-no_granting-ne0.true) } },
-  λ z. absurd (c.if-no_granting-ne0.true (rw c.refused.ensures at z)),
-)
+pub read_granting-requires : goal.read_granting-requires
+read_granting-requires c = ready_less granting_most c.requires (omega arith)
 
-pub read_allocation-allocation-requires : goal.read_allocation-allocation-requires
-read_allocation-allocation-requires c = (c.read_granting-granting.ensures.1 c.if-no_granting-ne0.false).ready allocation_most c.requires
+pub returns-in_err-slot_granting_element : goal.returns-in_err-slot_granting_element
+unfolding read_grant_and_allocation
+returns-in_err-slot_granting_element c =
+    let d = err_from_is_err_and c.from_residual.result c.from_residual.ensures.1 in
+    rw (d.1, d.2) (record {
+      of = λ h e. record { means = rw (parse_bind, read (c.read_granting.ensures.of h e) c.in_err-slot_granting_element.was) };
+      onward = tt;
+    })
+
+pub read_allocation-requires : goal.read_allocation-requires
+read_allocation-requires c = (on-from c.read_granting.ensures c.in_ok-slot_granting_element.was).ready allocation_most c.requires
+
+pub returns-in_err-chan_alloc_element : goal.returns-in_err-chan_alloc_element
+unfolding read_grant_and_allocation
+returns-in_err-chan_alloc_element c =
+    let o = on-from c.read_granting.ensures c.in_ok-slot_granting_element.was in
+    let d = err_from_is_err_and c.from_residual-in_err-chan_alloc_element.result c.from_residual-in_err-chan_alloc_element.ensures.1 in
+    rw (d.1, d.2) (record {
+      of = λ h e. record {
+        means = rw (
+          parse_bind,
+          read (c.read_granting.ensures.of h e) c.in_ok-slot_granting_element.was,
+          parse_bind,
+          read (c.read_allocation.ensures.of h (o.held h e)) c.in_err-chan_alloc_element.was,
+        );
+      };
+      onward = tt;
+    })
 
 pub returns : goal.returns
 unfolding read_grant_and_allocation
 returns c =
-    let o = c.read_granting-granting.ensures.1 c.if-no_granting-ne0.false in (
-      record {
-        of = λ h e. record {
-          means = rw (
-            parse_bind,
-            read (c.read_granting-granting.ensures.0.of h e) refl,
-            eq-eqb _ _ c.if-no_granting-ne0.false,
-            parse_bind,
-            read (c.read_allocation-allocation.ensures.0.of h (o.held h e)) refl,
-            next-part,
-          );
-        };
-      },
-      λ z. onward_then grant_and_allocation_most o (c.read_allocation-allocation.ensures.1 z) (omega arith),
-    )
-
-pub read_granting-granting-requires : goal.read_granting-granting-requires
-read_granting-granting-requires c = ready_less granting_most c.requires (omega arith)
+    let o = on-from c.read_granting.ensures c.in_ok-slot_granting_element.was in
+    record {
+      of = λ h e. record {
+        means = rw (
+          parse_bind,
+          read (c.read_granting.ensures.of h e) c.in_ok-slot_granting_element.was,
+          parse_bind,
+          read (c.read_allocation.ensures.of h (o.held h e)) c.in_ok-chan_alloc_element.was,
+        );
+      };
+      onward = onward_then grant_and_allocation_most o (on-from c.read_allocation.ensures c.in_ok-chan_alloc_element.was) (omega arith);
+    }
