@@ -1,13 +1,13 @@
 -- MAC-ACCESS (document 01): "Type 1 (0), fill 1, encrypted 1, address type 2 (0 SSI, 1 label, 2 USSI, 3 SMI), address, option flag 1; if set,
 -- selector 1: 0 and length 5, or 1, fragment 1, reservation 4."
-use Rattle.std.specs.Prelude.{ℕ, ◌+◌, List, [], ◌∷◌, ◌++◌, Bool, false, drop, eqb, leb, Err, Ok}
+use Rattle.std.specs.Prelude.{ℕ, ◌+◌, List, [], ◌∷◌, ◌++◌, Bool, false, eqb, leb}
 use Rattle.bits.specs.Bits.{digit}
 use Rattle.tetra_core.specs.Refusal.{unless}
 use Rattle.tetra_core.specs.declared.bitbuffer.Cursor.{Cursor}
 use Rattle.tetra_core.specs.declared.bitbuffer.Read.{Read}
 use Rattle.tetra_core.specs.declared.bitbuffer.Moved.{Moved}
-use Rattle.codec.specs.Reader.{Out, got, Reader, done, field, choose, ◌>>=◌}
-use Rattle.codec.specs.Header.{at_cursor, part_out}
+use Rattle.codec.specs.Reader.{Reader, done, field, choose, ◌>>=◌}
+use Rattle.codec.specs.Header.{at_cursor}
 use Rattle.codec.specs.Row.{Cell, cell, size, row_bits}
 use Rattle.codec.specs.Write.{write_at, written_at}
 use Rattle.codec.specs.Cases.{flag}
@@ -17,8 +17,6 @@ use Rattle.tetra_fields.specs.declared.fields.uplink_head.UplinkHead.{UplinkHead
 use Rattle.mac_access.specs.declared.mac_access.MacAccessOption.{MacAccessOption}
 use Rattle.mac_access.specs.declared.mac_access.MacAccessOption.TheVariants.{Without, LengthInd, CapacityRequest}
 use Rattle.mac_access.specs.declared.mac_access.MacAccess.{MacAccess}
-use Rattle.mac_access.specs.declared.mac_access.MacAccessPart.{MacAccessPart}
-use Rattle.mac_access.specs.declared.mac_access.OptionPart.{OptionPart}
 
 -- the bits behind a set option flag; the most with it; the most of a MAC-ACCESS
 abbrev pub chosen_size : ℕ
@@ -66,13 +64,7 @@ read_mac_access = do
   option ← read_option
   done (mac_access_of head option)
 
--- a part's answer as an outcome
-abbrev pub option_out : List Bool → OptionPart → Out MacAccessOption
-option_out h p = part_out p.refusal (got p.option (drop p.next h) p.next)
-
-abbrev pub mac_access_out : List Bool → MacAccessPart → Out MacAccess
-mac_access_out h p = part_out p.refusal (got p.header (drop p.next h) p.next)
-
+-- the same at a cursor
 unfoldable pub mac_access_at : List ℕ → Cursor → Read MacAccess
 mac_access_at = at_cursor read_mac_access
 

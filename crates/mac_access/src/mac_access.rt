@@ -3,15 +3,16 @@ ghost use Rattle.std.specs.Prelude.{◌≡◌, ◌≤◌};
 ghost use Rattle.codec.specs.Ahead.{Ready, ReadsNext};
 ghost use Rattle.codec.specs.Row.{row_bits, RowIs, size};
 ghost use Rattle.codec.specs.Encoded.{EncodesOne};
-ghost use Rattle.mac_access.specs.MacAccess.{chosen_size, option_most, access_most, mac_access_of, is_null_pdu, is_frag_start, read_chosen, read_option, option_out, read_mac_access, mac_access_out, mac_access_at, option_row, mac_access_row, mac_access_size, option_refusal, mac_access_refusal, mac_access_write, mac_access_written};
+ghost use Rattle.mac_access.specs.MacAccess.{chosen_size, option_most, access_most, mac_access_of, is_null_pdu, is_frag_start, read_chosen, read_option, read_mac_access, mac_access_at, option_row, mac_access_row, mac_access_size, option_refusal, mac_access_refusal, mac_access_write, mac_access_written};
 
 use codec::encoded::Encoded;
+use codec::header::Header;
 use codec::piece::Piece;
-use codec::{Ahead, encoded};
+use codec::{Ahead, encoded, header};
 use tetra_core::address::UplinkAddress;
 use tetra_core::bitbuffer::{Cursor, Moved, Read};
+use tetra_core::refusal;
 use tetra_core::refusal::Refusal;
-use tetra_core::{bitbuffer, refusal};
 use tetra_fields::enums::reservation_requirement;
 use tetra_fields::enums::reservation_requirement::ReservationRequirement;
 use tetra_fields::fields::uplink_head;
@@ -60,46 +61,6 @@ pub struct MacAccess {
     pub option: MacAccessOption,
 }
 
-// A MAC-ACCESS: why it is not read, or number 0; and the offset after it.
-#[derive(Clone, Copy)]
-pub struct MacAccessPart {
-    pub refusal: Refusal,
-    pub header: MacAccess,
-    pub next: usize,
-}
-
-// The same of what follows the address.
-#[derive(Clone, Copy)]
-pub struct OptionPart {
-    pub refusal: Refusal,
-    pub option: MacAccessOption,
-    pub next: usize,
-}
-
-// What else a refused part holds is not looked at.
-fn no_option(refusal: Refusal) -> OptionPart
-    ensures { result.refusal ≡ refusal }
-{
-    OptionPart {
-        refusal,
-        option: MacAccessOption::Without,
-        next: 0,
-    }
-}
-
-fn option_read(option: MacAccessOption, next: usize) -> OptionPart
-    ensures { result ≡ record { refusal = record { number = 0; offset = 0 }; option = option; next = next } }
-{
-    OptionPart {
-        refusal: Refusal {
-            number: refusal::NONE,
-            offset: 0,
-        },
-        option,
-        next,
-    }
-}
-
 // A MAC-ACCESS of its head and its option.
 fn header_of(head: UplinkHead, option: MacAccessOption) -> MacAccess
     ensures { result ≡ mac_access_of head option }
@@ -135,113 +96,71 @@ pub fn is_frag_start(h: MacAccess) -> bool
     }
 }
 
-// What follows a set option flag, which is ahead.
-fn read_chosen(a: Ahead) -> OptionPart
+// What follows a set option flag, which is ahead; and what is ahead after it.
+fn read_chosen(a: Ahead) -> Result<(MacAccessOption, Ahead), Refusal>
     requires { Ready a chosen_size }
-    ensures { ReadsNext option_out read_chosen a result }
+    ensures { ReadsNext read_chosen a chosen_size result }
 {
-    let left = a.left;
-    let o = a.at;
-    if left < 1 {
-        return no_option(Refusal {
-            number: refusal::READ_PAST_END,
-            offset: o,
-        });
+    if a.left < 1 {
+        return Err(codec::field_past_end(a.at));
     }
-    if left < CHOSEN_BITS {
+    if a.left < CHOSEN_BITS {
         if codec::next_bits(a, 1) == 0 {
-            return no_option(Refusal {
-                number: refusal::READ_PAST_END,
-                offset: o + 1,
-            });
+            return Err(codec::field_past_end(a.at + 1));
         }
-        let widths = [1u8, 4];
-        return no_option(codec::fields_past_end(&widths, left - 1, o + 1));
+        return Err(codec::fields_past_end(&[1, 4], a.left - 1, a.at + 1));
     }
     let x = codec::next_bits(a, CHOSEN_BITS);
+    let after = codec::advance(a, CHOSEN_BITS);
     if x / SELECTOR % 2 == 0 {
-        return option_read(MacAccessOption::LengthInd((x % 32) as u8), o + CHOSEN_BITS);
+        return Ok((MacAccessOption::LengthInd((x % 32) as u8), after));
     }
-    option_read(
-        MacAccessOption::CapacityRequest(
-            x / FRAGMENT % 2 != 0,
-            reservation_requirement::from_raw(x % 16),
-        ),
-        o + CHOSEN_BITS,
-    )
+    let req = reservation_requirement::from_raw(x % 16);
+    Ok((
+        MacAccessOption::CapacityRequest(x / FRAGMENT % 2 != 0, req),
+        after,
+    ))
 }
 
-// The option flag that is ahead, and what follows it.
-fn read_option(a: Ahead) -> OptionPart
+// The option flag that is ahead and what follows it, and what is ahead after them.
+fn read_option(a: Ahead) -> Result<(MacAccessOption, Ahead), Refusal>
     requires { Ready a option_most }
-    ensures { ReadsNext option_out read_option a result }
+    ensures { ReadsNext read_option a option_most result }
 {
-    let left = a.left;
-    let o = a.at;
-    if left < 1 {
-        return no_option(Refusal {
-            number: refusal::READ_PAST_END,
-            offset: o,
-        });
+    if a.left < 1 {
+        return Err(codec::field_past_end(a.at));
     }
+    let after = codec::advance(a, 1);
     if codec::next_bits(a, 1) == 0 {
-        return option_read(MacAccessOption::Without, o + 1);
+        return Ok((MacAccessOption::Without, after));
     }
-    read_chosen(codec::advance(a, 1))
+    read_chosen(after)
 }
 
-// A MAC-ACCESS, which is ahead: one word holds it.
-fn read_mac_access(a: Ahead) -> MacAccessPart
+// A MAC-ACCESS, which is ahead: one word holds it; and what is ahead after it.
+fn read_mac_access(a: Ahead) -> Result<(MacAccess, Ahead), Refusal>
     requires { Ready a access_most }
-    ensures { ReadsNext mac_access_out read_mac_access a result }
+    ensures { ReadsNext read_mac_access a access_most result }
 {
-    let first = uplink_head::read_uplink_head(a, TYPE_BITS);
-    let no_head = first.refusal;
-    let head = first.head;
-    let behind = first.after;
-    if no_head.number != 0 {
-        return MacAccessPart {
-            refusal: no_head,
-            header: header_of(head, MacAccessOption::Without),
-            next: 0,
-        };
-    }
-    let second = read_option(behind);
-    let refusal = second.refusal;
-    let option = second.option;
-    MacAccessPart {
-        refusal,
-        header: header_of(head, option),
-        next: second.next,
+    let (head, behind) = uplink_head::read_uplink_head(a, TYPE_BITS)?;
+    let (option, after) = read_option(behind)?;
+    Ok((header_of(head, option), after))
+}
+
+impl Header for MacAccess {
+    ghost reader = { read_mac_access };
+
+    fn read(_s: &[u8], _c: Cursor, a: Ahead) -> Result<(MacAccess, Ahead), Refusal> {
+        read_mac_access(a)
     }
 }
 
 // Reads a MAC-ACCESS at the cursor.
+#[tactic(auto, unfolding(crate::specs::MacAccess::mac_access_at))]
 pub fn from_bitbuf(s: &[u8], c: Cursor) -> Read<MacAccess>
     ensures { result ≡ mac_access_at s.now c }
 {
-    if !bitbuffer::good_window(s.len(), c) {
-        return Read {
-            cursor: c,
-            answer: Err(Refusal {
-                number: refusal::BAD_WINDOW,
-                offset: 0,
-            }),
-        };
-    }
-    let part = read_mac_access(codec::load(s, c, 0));
-    let refusal = part.refusal;
-    let header = part.header;
-    if refusal.number != 0 {
-        return Read {
-            cursor: c,
-            answer: Err(refusal),
-        };
-    }
-    Read {
-        cursor: codec::moved_by(c, part.next),
-        answer: Ok(header),
-    }
+    header::from_bitbuf(s, c)
 }
 
 // Why an option is not written, or 0.

@@ -1,13 +1,13 @@
 -- MAC-DATA (document 01): "Type 2 (0), fill 1, encrypted 1, address as above, selector 1: 0 and length 6, or 1, fragment 1, reservation 4, reserved
 -- 1. The reserved bit is written 0, read as either."
-use Rattle.std.specs.Prelude.{ℕ, ◌+◌, ◌-◌, List, [], ◌∷◌, ◌++◌, Bool, false, length, drop, get_or, eqb, leb, Err, Ok}
+use Rattle.std.specs.Prelude.{ℕ, ◌+◌, ◌-◌, List, [], ◌∷◌, ◌++◌, Bool, false, length, get_or, eqb, leb}
 use Rattle.bits.specs.Bits.{digit}
 use Rattle.tetra_core.specs.Refusal.{unless}
 use Rattle.tetra_core.specs.declared.bitbuffer.Cursor.{Cursor}
 use Rattle.tetra_core.specs.declared.bitbuffer.Read.{Read}
 use Rattle.tetra_core.specs.declared.bitbuffer.Moved.{Moved}
-use Rattle.codec.specs.Reader.{Out, got, Reader, done, field, choose, ◌>>=◌}
-use Rattle.codec.specs.Header.{at_cursor, part_out}
+use Rattle.codec.specs.Reader.{Reader, done, field, choose, ◌>>=◌}
+use Rattle.codec.specs.Header.{at_cursor}
 use Rattle.codec.specs.Row.{Cell, cell, row_bits}
 use Rattle.codec.specs.Write.{write_at, written_at}
 use Rattle.codec.specs.Cases.{flag}
@@ -17,8 +17,6 @@ use Rattle.tetra_fields.specs.declared.fields.uplink_head.UplinkHead.{UplinkHead
 use Rattle.mac_data.specs.declared.mac_data.MacDataOption.{MacDataOption}
 use Rattle.mac_data.specs.declared.mac_data.MacDataOption.TheVariants.{LengthInd, CapacityRequest}
 use Rattle.mac_data.specs.declared.mac_data.MacData.{MacData}
-use Rattle.mac_data.specs.declared.mac_data.MacDataPart.{MacDataPart}
-use Rattle.mac_data.specs.declared.mac_data.OptionPart.{OptionPart}
 
 -- the bits behind the address, and the most bits of a MAC-DATA
 abbrev pub option_size : ℕ
@@ -58,13 +56,7 @@ read_mac_data = do
   option ← read_option
   done (mac_data_of head option)
 
--- a part's answer as an outcome
-abbrev pub option_out : List Bool → OptionPart → Out MacDataOption
-option_out h p = part_out p.refusal (got p.option (drop p.next h) p.next)
-
-abbrev pub mac_data_out : List Bool → MacDataPart → Out MacData
-mac_data_out h p = part_out p.refusal (got p.header (drop p.next h) p.next)
-
+-- the same at a cursor
 unfoldable pub mac_data_at : List ℕ → Cursor → Read MacData
 mac_data_at = at_cursor read_mac_data
 

@@ -3,15 +3,16 @@ ghost use Rattle.std.specs.Prelude.{◌≡◌, ◌≤◌};
 ghost use Rattle.codec.specs.Ahead.{Ready, ReadsNext};
 ghost use Rattle.codec.specs.Row.{row_bits, RowIs};
 ghost use Rattle.codec.specs.Encoded.{EncodesOne};
-ghost use Rattle.mac_data.specs.MacData.{option_size, data_most, mac_data_of, read_option, option_out, read_mac_data, mac_data_out, mac_data_at, option_row, mac_data_row, mac_data_size, option_refusal, mac_data_refusal, mac_data_write, mac_data_written};
+ghost use Rattle.mac_data.specs.MacData.{option_size, data_most, mac_data_of, read_option, read_mac_data, mac_data_at, option_row, mac_data_row, mac_data_size, option_refusal, mac_data_refusal, mac_data_write, mac_data_written};
 
 use codec::encoded::Encoded;
+use codec::header::Header;
 use codec::piece::Piece;
-use codec::{Ahead, encoded};
+use codec::{Ahead, encoded, header};
 use tetra_core::address::UplinkAddress;
 use tetra_core::bitbuffer::{Cursor, Moved, Read};
+use tetra_core::refusal;
 use tetra_core::refusal::Refusal;
-use tetra_core::{bitbuffer, refusal};
 use tetra_fields::enums::reservation_requirement;
 use tetra_fields::enums::reservation_requirement::ReservationRequirement;
 use tetra_fields::fields::uplink_head;
@@ -52,46 +53,6 @@ pub struct MacData {
     pub option: MacDataOption,
 }
 
-// A MAC-DATA: why it is not read, or number 0; and the offset after it.
-#[derive(Clone, Copy)]
-pub struct MacDataPart {
-    pub refusal: Refusal,
-    pub header: MacData,
-    pub next: usize,
-}
-
-// The same of what follows the address.
-#[derive(Clone, Copy)]
-pub struct OptionPart {
-    pub refusal: Refusal,
-    pub option: MacDataOption,
-    pub next: usize,
-}
-
-// What else a refused part holds is not looked at.
-fn no_option(refusal: Refusal) -> OptionPart
-    ensures { result.refusal ≡ refusal }
-{
-    OptionPart {
-        refusal,
-        option: MacDataOption::LengthInd(0),
-        next: 0,
-    }
-}
-
-fn option_read(option: MacDataOption, next: usize) -> OptionPart
-    ensures { result ≡ record { refusal = record { number = 0; offset = 0 }; option = option; next = next } }
-{
-    OptionPart {
-        refusal: Refusal {
-            number: refusal::NONE,
-            offset: 0,
-        },
-        option,
-        next,
-    }
-}
-
 // A MAC-DATA of its head and its option.
 fn header_of(head: UplinkHead, option: MacDataOption) -> MacData
     ensures { result ≡ mac_data_of head option }
@@ -105,94 +66,57 @@ fn header_of(head: UplinkHead, option: MacDataOption) -> MacData
     }
 }
 
-// What follows the address, which is ahead.
-fn read_option(a: Ahead) -> OptionPart
+// What follows the address, which is ahead; and what is ahead after it.
+fn read_option(a: Ahead) -> Result<(MacDataOption, Ahead), Refusal>
     requires { Ready a option_size }
-    ensures { ReadsNext option_out read_option a result }
+    ensures { ReadsNext read_option a option_size result }
 {
     let left = a.left;
-    let o = a.at;
     if left < 1 {
-        return no_option(Refusal {
-            number: refusal::READ_PAST_END,
-            offset: o,
-        });
+        return Err(codec::field_past_end(a.at));
     }
     if left < OPTION_BITS {
         if codec::next_bits(a, 1) == 0 {
-            return no_option(Refusal {
-                number: refusal::READ_PAST_END,
-                offset: o + 1,
-            });
+            return Err(codec::field_past_end(a.at + 1));
         }
-        let widths = [1u8, 4, 1];
-        return no_option(codec::fields_past_end(&widths, left - 1, o + 1));
+        return Err(codec::fields_past_end(&[1, 4, 1], left - 1, a.at + 1));
     }
     let x = codec::next_bits(a, OPTION_BITS);
+    let after = codec::advance(a, OPTION_BITS);
     if x / SELECTOR % 2 == 0 {
-        return option_read(MacDataOption::LengthInd((x % 64) as u8), o + OPTION_BITS);
+        return Ok((MacDataOption::LengthInd((x % 64) as u8), after));
     }
-    option_read(
-        MacDataOption::CapacityRequest(
-            x / FRAGMENT % 2 != 0,
-            reservation_requirement::from_raw(x / RESERVATION % 16),
-        ),
-        o + OPTION_BITS,
-    )
+    let req = reservation_requirement::from_raw(x / RESERVATION % 16);
+    Ok((
+        MacDataOption::CapacityRequest(x / FRAGMENT % 2 != 0, req),
+        after,
+    ))
 }
 
-// A MAC-DATA, which is ahead: one word holds it.
-fn read_mac_data(a: Ahead) -> MacDataPart
+// A MAC-DATA, which is ahead: one word holds it; and what is ahead after it.
+fn read_mac_data(a: Ahead) -> Result<(MacData, Ahead), Refusal>
     requires { Ready a data_most }
-    ensures { ReadsNext mac_data_out read_mac_data a result }
+    ensures { ReadsNext read_mac_data a data_most result }
 {
-    let first = uplink_head::read_uplink_head(a, TYPE_BITS);
-    let no_head = first.refusal;
-    let head = first.head;
-    let behind = first.after;
-    if no_head.number != 0 {
-        return MacDataPart {
-            refusal: no_head,
-            header: header_of(head, MacDataOption::LengthInd(0)),
-            next: 0,
-        };
-    }
-    let second = read_option(behind);
-    let refusal = second.refusal;
-    let option = second.option;
-    MacDataPart {
-        refusal,
-        header: header_of(head, option),
-        next: second.next,
+    let (head, behind) = uplink_head::read_uplink_head(a, TYPE_BITS)?;
+    let (option, after) = read_option(behind)?;
+    Ok((header_of(head, option), after))
+}
+
+impl Header for MacData {
+    ghost reader = { read_mac_data };
+
+    fn read(_s: &[u8], _c: Cursor, a: Ahead) -> Result<(MacData, Ahead), Refusal> {
+        read_mac_data(a)
     }
 }
 
 // Reads a MAC-DATA at the cursor.
+#[tactic(auto, unfolding(crate::specs::MacData::mac_data_at))]
 pub fn from_bitbuf(s: &[u8], c: Cursor) -> Read<MacData>
     ensures { result ≡ mac_data_at s.now c }
 {
-    if !bitbuffer::good_window(s.len(), c) {
-        return Read {
-            cursor: c,
-            answer: Err(Refusal {
-                number: refusal::BAD_WINDOW,
-                offset: 0,
-            }),
-        };
-    }
-    let part = read_mac_data(codec::load(s, c, 0));
-    let refusal = part.refusal;
-    let header = part.header;
-    if refusal.number != 0 {
-        return Read {
-            cursor: c,
-            answer: Err(refusal),
-        };
-    }
-    Read {
-        cursor: codec::moved_by(c, part.next),
-        answer: Ok(header),
-    }
+    header::from_bitbuf(s, c)
 }
 
 // Why an option is not written, or 0.

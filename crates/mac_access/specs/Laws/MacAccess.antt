@@ -1,13 +1,12 @@
 -- A MAC-ACCESS that is written has its length and is read back, and one that was read is written again.
-use Rattle.std.specs.Prelude.{ℕ, ◌+◌, ◌≡◌, refl, List, ◌++◌, Bool, length, take, Err, Ok}
-use Rattle.std.proofs.Common.{ap, ◌∙◌, arith, zero-add, lit<, leb-true, le-leb, eqb-true}
+use Rattle.std.specs.Prelude.{ℕ, ◌+◌, ◌≡◌, refl, List, ◌++◌, Bool, length, take, Ok}
+use Rattle.std.proofs.Common.{◌∙◌, arith, zero-add, lit<, leb-true, le-leb, eqb-true}
 use Rattle.std.proofs.Math.Nat.{sub-zero}
 use Rattle.bits.specs.Bits.{Bytes}
 use Rattle.tetra_core.specs.BitBuffer.{moved}
 use Rattle.tetra_core.specs.Refusal.{passed}
 use Rattle.bits.proofs.Laws.Values.{digit_lt}
 use Rattle.tetra_core.specs.declared.bitbuffer.Cursor.{Cursor}
-use Rattle.tetra_core.specs.declared.bitbuffer.Read.{Read}
 use Rattle.codec.specs.Reader.{got, parse}
 use Rattle.codec.specs.Header.{within}
 use Rattle.codec.specs.Row.{size, row_bits, RowFits}

@@ -1,6 +1,6 @@
 -- A MAC-DATA that is written has its length and is read back, and one that was read is written again.
-use Rattle.std.specs.Prelude.{ℕ, zero, suc, ◌+◌, ◌-◌, ◌<◌, ◌≡◌, refl, List, [], ◌∷◌, ◌++◌, Bool, true, false, length, take, get_or, Err, Ok}
-use Rattle.std.proofs.Common.{ap, ◌∙◌, append_assoc, append-nil, arith, zero-add, length-append, lit<, leb-true, le-leb, eqb-true}
+use Rattle.std.specs.Prelude.{ℕ, zero, suc, ◌+◌, ◌-◌, ◌<◌, ◌≡◌, refl, List, [], ◌∷◌, ◌++◌, Bool, true, false, length, take, get_or, Ok}
+use Rattle.std.proofs.Common.{◌∙◌, append_assoc, append-nil, arith, zero-add, length-append, lit<, leb-true, le-leb, eqb-true}
 use Rattle.std.proofs.Math.Nat.{sub-zero}
 use Rattle.std.proofs.lemmas.List.{get_or_at}
 use Rattle.bits.specs.Bits.{odd, bits_of_nat, bits_at, Bytes}
@@ -8,7 +8,6 @@ use Rattle.tetra_core.specs.BitBuffer.{moved}
 use Rattle.tetra_core.specs.Refusal.{passed}
 use Rattle.bits.proofs.Laws.Values.{digit_lt}
 use Rattle.tetra_core.specs.declared.bitbuffer.Cursor.{Cursor}
-use Rattle.tetra_core.specs.declared.bitbuffer.Read.{Read}
 use Rattle.codec.specs.Reader.{got, parse}
 use Rattle.codec.specs.Header.{within}
 use Rattle.codec.specs.Row.{size, row_bits, RowFits}

@@ -1,39 +1,51 @@
-use mathlib.Core.Path.{refl}
-use borrow.Author.Tests.{eq-eqb, ne_eqb}
+use Rattle.std.proofs.Common.{refl, lit≤}
+use Rattle.std.proofs.lemmas.Result.{err_from_is_err_and}
 use Rattle.codec.proofs.Laws.Reader.{parse_bind}
-use Rattle.codec.proofs.Laws.Header.{next-part}
-use Rattle.codec.proofs.Laws.Ahead.{next-read}
-use Rattle.tetra_fields.specs.UplinkHead.{uplink_head_out}
-use Rattle.mac_data.specs.MacData.{option_out, read_mac_data}
+use Rattle.codec.proofs.Laws.Ahead.{onward_then, next-read, on-from}
+use Rattle.mac_data.specs.MacData.{data_most, option_size, read_mac_data}
 use Rattle.mac_data.proofs.mac_data.read_mac_data.Goals as goal
 
-pub returns-then-no_head-ne0 : goal.returns-then-no_head-ne0
+pub returns-in_err-head : goal.returns-in_err-head
 unfolding read_mac_data
-returns-then-no_head-ne0 c =
-    record {
-      of = λ h e. record {
-        means = rw (parse_bind, next-read (λ _. uplink_head_out) {h = h} c.read_uplink_head-first.ensures.0 e refl refl, ne_eqb _ _ c.if-no_head-ne0.true);
-      };
-    }
+returns-in_err-head c =
+    let p = err_from_is_err_and c.from_residual.result c.from_residual.ensures.1 in
+    rw (p.1, p.2) (record { of = λ h e. record { means = rw (parse_bind, next-read c.read_uplink_head.ensures e refl c.in_err-head.was) }; onward = tt })
 
-pub read_option-second-requires : goal.read_option-second-requires
-read_option-second-requires c =
-    (c.read_uplink_head-first.ensures.1 c.if-no_head-ne0.false).ready 7 c.requires
+pub read_option-requires : goal.read_option-requires
+read_option-requires c =
+    (on-from c.read_uplink_head.ensures c.in_ok-head.was).ready option_size c.requires
+
+pub returns-in_err-option : goal.returns-in_err-option
+unfolding read_mac_data
+returns-in_err-option c =
+    let f = c.read_uplink_head.ensures in
+    let p = err_from_is_err_and c.from_residual-in_err-option.result c.from_residual-in_err-option.ensures.1 in
+    rw (p.1, p.2) (record {
+      of = λ h e. record {
+        means = rw (
+          parse_bind,
+          next-read f e refl c.in_ok-head.was,
+          parse_bind,
+          next-read c.read_option.ensures ((on-from f c.in_ok-head.was).held h e) refl c.in_err-option.was,
+        );
+      };
+      onward = tt;
+    })
 
 pub returns : goal.returns
 unfolding read_mac_data
 returns c =
-    let u = c.read_uplink_head-first.ensures in
+    let f = c.read_uplink_head.ensures in
+    let b = on-from f c.in_ok-head.was in
     record {
       of = λ h e. record {
         means = rw (
           parse_bind,
-          next-read (λ _. uplink_head_out) {h = h} u.0 e refl refl,
-          eq-eqb _ _ c.if-no_head-ne0.false,
+          next-read f e refl c.in_ok-head.was,
           parse_bind,
-          next-read (λ _. option_out) {h = h} c.read_option-second.ensures ((u.1 c.if-no_head-ne0.false).held h e) refl refl,
-          next-part,
-          c.header_of-2.ensures,
+          next-read c.read_option.ensures (b.held h e) refl c.in_ok-option.was,
+          c.header_of.ensures,
         );
       };
+      onward = onward_then data_most b (on-from c.read_option.ensures c.in_ok-option.was) (lit≤ tt);
     }

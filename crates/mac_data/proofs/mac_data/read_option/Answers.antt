@@ -1,14 +1,12 @@
-use mathlib.Core.List.{[], ◌∷◌}
-use native.Mathlib.Omega.{arith}
-use borrow.Author.Tests.{eq-eqb, ne_eqb}
+use Rattle.std.proofs.Common.{[], ◌∷◌, arith, eq-eqb, ne_eqb}
 use Rattle.codec.proofs.Laws.Header.{parsed_word, alone}
-use Rattle.codec.proofs.Laws.Ahead.{held_on, ahead_short, ahead_field-short}
-use Rattle.mac_data.specs.MacData.{read_option, read_request}
+use Rattle.codec.proofs.Laws.Ahead.{held_on, onward, ahead_short, ahead_field-short}
+use Rattle.mac_data.specs.MacData.{option_size, read_option, read_request}
 use Rattle.mac_data.proofs.mac_data.read_option.Goals as goal
 
 pub returns-then-left-lt1 : goal.returns-then-left-lt1
 unfolding read_option
-returns-then-left-lt1 c = record { of = λ h e. record { means = rw (c.no_option.ensures, ahead_field-short 1 e c.if-left-lt1.true) } }
+returns-then-left-lt1 c = record { of = λ h e. record { means = rw (c.field_past_end.ensures, ahead_field-short 1 e c.if-left-lt1.true) }; onward = tt }
 
 pub returns-then-next_bits-eq0 : goal.returns-then-next_bits-eq0
 unfolding read_option
@@ -17,12 +15,13 @@ returns-then-next_bits-eq0 c =
     record {
       of = λ h e. record {
         means = rw (
-          c.no_option-then-next_bits-eq0.ensures,
+          c.field_past_end-then-next_bits-eq0.ensures,
           alone (c.next_bits.ensures.word h e i),
           eq-eqb _ _ c.if-next_bits-eq0.true,
           ahead_field-short 6 (held_on 1 e i) (omega arith),
         );
       };
+      onward = tt;
     }
 
 pub returns-then-left-lt-OPTION_BITS : goal.returns-then-left-lt-OPTION_BITS
@@ -34,32 +33,36 @@ returns-then-left-lt-OPTION_BITS c =
         means = rw (
           alone (c.next_bits.ensures.word h e i),
           ne_eqb _ _ c.if-next_bits-eq0.false,
-          c.no_option-then-left-lt-OPTION_BITS.ensures,
           c.fields_past_end.ensures,
           ahead_short read_request (1 ∷ 4 ∷ 1 ∷ []) (λ _ _ _. tt) (held_on 1 e i) (omega arith),
         );
       };
+      onward = tt;
     }
 
 pub returns-then-x-eq0 : goal.returns-then-x-eq0
 unfolding read_option
 returns-then-x-eq0 c =
+    let i = c.if-left-lt-OPTION_BITS.false in
     record {
       of = λ h e. record {
-        means = rw (c.option_read.ensures, parsed_word read_option (c.next_bits-x.ensures.word h e c.if-left-lt-OPTION_BITS.false), eq-eqb _ _ c.if-x-eq0.true);
+        means = rw (parsed_word read_option (c.next_bits-x.ensures.word h e i), eq-eqb _ _ c.if-x-eq0.true, c.advance-after.ensures);
       };
+      onward = rw c.advance-after.ensures (onward option_size option_size (omega arith) i);
     }
 
 pub returns : goal.returns
 unfolding read_option read_request
 returns c =
+    let i = c.if-left-lt-OPTION_BITS.false in
     record {
       of = λ h e. record {
         means = rw (
-          c.option_read-2.ensures,
-          parsed_word read_option (c.next_bits-x.ensures.word h e c.if-left-lt-OPTION_BITS.false),
+          parsed_word read_option (c.next_bits-x.ensures.word h e i),
           ne_eqb _ _ c.if-x-eq0.false,
-          c.from_raw.ensures,
+          c.from_raw-req.ensures,
+          c.advance-after.ensures,
         );
       };
+      onward = rw c.advance-after.ensures (onward option_size option_size (omega arith) i);
     }
