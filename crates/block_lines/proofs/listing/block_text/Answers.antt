@@ -1,18 +1,26 @@
+use Rattle.std.proofs.Common.{refl, sym, ◌∙◌}
 use Rattle.block_walk.specs.Laws.Going.{fewer-entry}
 use Rattle.block_lines.proofs.Texts.{nothing, turn, finish}
 use Rattle.block_lines.proofs.listing.block_text.Goals as goal
 
 pub loop-entry-init : goal.loop-entry-init
-loop-entry-init c = nothing _ _ _ _
-
-pub returns-in_default : goal.returns-in_default
-returns-in_default c =
-    finish _ _ _ c.loop-entry.invariant c.walk_step-step.ensures c.in_default.not-Entry c.rest_from.ensures c.rest_text.ensures
+loop-entry-init c = rw c.new-walk.ensures (record { block = refl; bits = refl; written = nothing _ _ _ _ })
 
 pub loop-entry-smaller : goal.loop-entry-smaller
 loop-entry-smaller c =
-    fewer-entry _ _ _ c.walk_step-step.ensures c.in-Entry.is
+    let l = c.loop-entry.invariant in
+    let step = rw (l.block, l.bits) at c.next.ensures in
+    rw step.1 (fewer-entry _ _ _ refl (sym step.0 ∙ c.in-Entry.is))
 
 pub loop-entry-preserved : goal.loop-entry-preserved
 loop-entry-preserved c =
-    turn _ _ _ c.loop-entry.invariant c.walk_step-step.ensures c.in-Entry.is (rw c.entry_line.ensures at c.line_text-p.ensures)
+    let l = c.loop-entry.invariant in
+    let step = rw (l.block, l.bits) at c.next.ensures in
+    let line = rw c.entry_line.ensures at c.line_text-p.ensures in
+    rw step.1 (record { block = refl; bits = refl; written = turn _ _ _ l.written refl (sym step.0 ∙ c.in-Entry.is) line })
+
+pub returns : goal.returns
+returns c =
+    let l = c.loop-entry.invariant in
+    let step = rw (l.block, l.bits) at c.next.ensures in
+    finish _ _ _ l.written refl (rw step.0 at c.in_default.not-Entry) (rw step.1 at c.rest.ensures) c.rest_text.ensures
