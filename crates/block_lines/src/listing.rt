@@ -6,7 +6,7 @@ ghost use Rattle.block_lines.specs.Listing.{rest_text, block_text, no_block_text
 ghost use Rattle.block_lines.specs.Most.{rest_most, listing_most};
 
 use crate::line;
-use block_walk::Position;
+use block_walk::Walk;
 
 // The bytes of a listing at the most.
 pub const MOST_TEXT: usize = 3776;
@@ -24,16 +24,12 @@ fn block_text(out: &mut [u8], at: usize, block: &[u8], bits: usize) -> usize
     ensures { Put listing_most out.old at (block_text block.now bits) result out.new }
 {
     let mut p = at;
-    let mut position = Position::At(0);
-    loop {
-        let step = block_walk::walk_step(block, bits, position);
-        position = step.position;
-        // A step that is refused ends the listing as the walk's end does.
-        let Some(entry) = step.answer.unwrap_or(None) else {
-            return rest_text(out, p, block_walk::rest_from(block, bits, position));
-        };
+    let mut walk = Walk::new(block, bits);
+    // A step that is refused ends the listing as the walk's end does.
+    while let Some(entry) = walk.next().unwrap_or(None) {
         p = line::line_text(out, p, line::entry_line(entry));
     }
+    rest_text(out, p, walk.rest())
 }
 
 // The one line of what is no block.

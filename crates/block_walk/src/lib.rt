@@ -93,15 +93,9 @@ pub fn bits_between(start: usize, end: usize) -> usize
 pub fn rest_from(block: &[u8], bits: usize, position: Position) -> usize
     ensures { result ≡ rest_from block.now bits position }
 {
-    let mut at = position;
-    loop {
-        match at {
-            Position::At(bit) => {
-                let done = step_at(block, bits, bit);
-                at = done.position;
-            }
-            Position::Ended(rest_at) => return bits_between(rest_at, bits),
-        }
+    match position {
+        Position::At(bit) => rest_from(block, bits, step_at(block, bits, bit).position),
+        Position::Ended(rest_at) => bits_between(rest_at, bits),
     }
 }
 

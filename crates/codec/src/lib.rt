@@ -108,15 +108,13 @@ pub fn field_past_end(o: usize) -> Refusal
 fn reach(widths: &[u8], left: usize) -> usize
     ensures { (result ≡ short_at widths.now left) × (result ≤ left) }
 {
-    let mut at: usize = 0;
-    let mut i = 0;
-    while i < widths.len() {
-        let n = bits::word::widen(widths[i]) as usize;
+    let mut at = 0;
+    for &width in widths {
+        let n = usize::from(width);
         if left - at < n {
             return at;
         }
         at += n;
-        i += 1;
     }
     at
 }

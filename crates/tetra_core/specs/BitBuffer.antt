@@ -1,5 +1,6 @@
 -- What each call of bitbuffer.rt answers, the cursor after it, and the bytes that it leaves. Document 01, "Bits".
 use Rattle.std.specs.Prelude.{ℕ, zero, suc, ◌+◌, ◌-◌, ◌*◌, ◌^◌, List, [], ◌∷◌, ◌++◌, map, Bool, true, false, ◌&&◌, length, replicate, drop, ℤ, pos, negsuc, ◌+ℤ◌, leb, ltb, Err, None, Ok, Option, Result, Some}
+use Rattle.std.specs.List.{list_all}
 use Rattle.bits.specs.Bits.{digit, odd, bits_at, get_bits, put_bits, bits_of_nat}
 use Rattle.tetra_core.specs.Refusal.{unless, first}
 use Rattle.tetra_core.specs.Quantity.{octets_of, fill_of}
@@ -166,8 +167,7 @@ copied t d s c n = bytes_after (copy_refusal (length t) d (length s) c n) t (put
 
 -- each byte of buf is a bit
 abbrev pub are_bits : List ℕ → Bool
-are_bits [] = true
-are_bits (b ∷ bs) = ltb b 2 && are_bits bs
+are_bits = list_all (λ b. ltb b 2)
 
 unfoldable pub from_bitarr_refusal : ℕ → Cursor → List ℕ → ℕ
 from_bitarr_refusal len c buf = first (unless (good_window len c) 13 ∷ unless (are_bits buf) 3 ∷ unless (leb (length buf) (remaining c)) 2 ∷ [])

@@ -1,6 +1,5 @@
 // Bits one to a byte, and bits as whole bytes.
-ghost use Rattle.std.specs.Prelude.{◌≡◌, ◌++◌, map, false, ◌+◌, ◌*◌, ◌≤◌, length, take, drop, replicate};
-ghost use Rattle.std.proofs.Math.Seq.{paste};
+ghost use Rattle.std.specs.Prelude.{◌≡◌, ◌++◌, map, false, ◌+◌, ◌*◌, ◌≤◌, length, replicate};
 ghost use Rattle.bits.specs.Bits.{digit, odd, val, bits_at, bits_of_nat, put_bits};
 ghost use Rattle.tetra_core.specs.Quantity.{octets_of, fill_of};
 ghost use Rattle.tetra_core.specs.BitBuffer.{are_bits};
@@ -16,15 +15,14 @@ pub(crate) fn copy_octets(buf: &mut [u8], s: &[u8], pos: usize, n: usize)
     span::put_span(buf, n, 8 * ((n + 7) / 8) - n, false);
 }
 
-// The k low bits of x as bytes 0 and 1 of buf from at on.
-fn spread(buf: &mut [u8], at: usize, k: usize, x: u64)
-    requires { (at + k ≤ length buf.old) × (k ≤ 64) }
-    ensures { buf.new ≡ paste buf.old at (map digit (bits_of_nat k x)) k }
+// The low bits of x, one to each byte of buf.
+fn spread(buf: &mut [u8], x: u64)
+    requires { length buf.old ≤ 64 }
+    ensures { buf.new ≡ map digit (bits_of_nat (length buf.old) x) }
 {
-    let mut i: usize = 0;
-    while i < k {
-        buf[at + i] = ((x >> (k - 1 - i)) % 2) as u8;
-        i += 1;
+    let n = buf.len();
+    for (i, b) in buf.iter_mut().enumerate() {
+        *b = ((x >> (n - 1 - i)) % 2) as u8;
     }
 }
 
@@ -33,43 +31,30 @@ pub(crate) fn spread_all(buf: &mut [u8], s: &[u8], pos: usize)
     requires { (pos + length buf.old ≤ 8 * length s.now) × (pos + length buf.old ≤ 65536) }
     ensures { buf.new ≡ map digit (bits_at s.now pos (length buf.old)) }
 {
-    let n = buf.len();
-    let mut done: usize = 0;
-    while done < n {
-        let k = word::min(n - done, 64);
-        let x = word::get_bits(s, pos + done, k);
-        spread(buf, done, k, x);
-        done += k;
+    if buf.is_empty() {
+        return;
     }
+    let k = buf.len().min(64);
+    let (first, rest) = buf.split_at_mut(k);
+    spread(first, word::get_bits(s, pos, k));
+    spread_all(rest, s, pos + k);
 }
 
 // Whether each byte is 0 or 1.
 pub fn all_bits(buf: &[u8]) -> bool
     ensures { result ≡ are_bits buf.now }
 {
-    let mut i: usize = 0;
-    while i < buf.len() {
-        if 2 <= buf[i] {
-            return false;
-        }
-        i += 1;
-    }
-    true
+    buf.iter().all(|&b| b < 2)
 }
 
-// The low bits of the k bytes of buf from at on, as a number.
-fn gather(buf: &[u8], at: usize, k: usize) -> u64
-    requires { (at + k ≤ length buf.now) × (k ≤ 64) }
-    ensures { result ≡ val (map odd (take k (drop at buf.now))) }
+// The low bits of some bytes, as a number.
+fn gather(bytes: &[u8]) -> u64
+    requires { length bytes.now ≤ 64 }
+    ensures { result ≡ val (map odd bytes.now) }
 {
-    let mut acc: u64 = 0;
-    let mut i: usize = 0;
-    while i < k {
-        let b = buf[at + i];
-        acc = acc * 2 + (b % 2) as u64;
-        i += 1;
-    }
-    acc
+    bytes
+        .iter()
+        .fold(0, |acc, &b| (acc << 1) | u64::from(b % 2))
 }
 
 // The low bits of the bytes of buf, put into s from pos on.
@@ -77,11 +62,9 @@ pub(crate) fn gather_all(s: &mut [u8], pos: usize, buf: &[u8])
     requires { (pos + length buf.now ≤ 8 * length s.old) × (pos + length buf.now ≤ 65536) }
     ensures { s.new ≡ put_bits s.old pos (map odd buf.now) }
 {
-    let n = buf.len();
-    let mut done: usize = 0;
-    while done < n {
-        let k = word::min(n - done, 64);
-        word::put_bits(s, pos + done, k, gather(buf, done, k));
-        done += k;
+    let mut at = pos;
+    for chunk in buf.chunks(64) {
+        word::put_bits(s, at, chunk.len(), gather(chunk));
+        at += chunk.len();
     }
 }

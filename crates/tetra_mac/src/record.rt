@@ -14,10 +14,8 @@ pub fn put_words(out: &mut [u64], at: usize, words: &[u64])
     requires { at + length words.now ≤ length out.old }
     ensures { out.new ≡ sets out.old at words.now }
 {
-    let mut i: usize = 0;
-    while i < words.len() {
-        out[at + i] = words[i];
-        i += 1;
+    for (i, &word) in words.iter().enumerate() {
+        out[at + i] = word;
     }
 }
 

@@ -1,20 +1,26 @@
-use Rattle.std.proofs.Common.{sym, ◌∙◌}
+use Rattle.std.proofs.Common.{refl, sym, ◌∙◌}
 use Rattle.block_walk.specs.Laws.Going.{fewer-entry}
 use Rattle.block_lines.proofs.Texts.{nothing, turn, finish, some_entry, no_entry}
 use Rattle.block_lines.proofs.listing.block_text.Goals as goal
 
 pub loop-entry-init : goal.loop-entry-init
-loop-entry-init c = nothing _ _ _ _
-
-pub returns-in_default : goal.returns-in_default
-returns-in_default c =
-    finish _ _ _ c.loop-entry.invariant c.walk_step-step.ensures (no_entry _ (λ e q. c.in_default.not-Some e (c.unwrap_or.ensures ∙ q))) c.rest_from.ensures c.rest_text.ensures
+loop-entry-init c = rw c.new-walk.ensures (record { block = refl; bits = refl; written = nothing _ _ _ _ })
 
 pub loop-entry-smaller : goal.loop-entry-smaller
 loop-entry-smaller c =
-    fewer-entry _ _ _ c.walk_step-step.ensures (some_entry _ _ (sym c.unwrap_or.ensures ∙ c.in-Some.is))
+    let l = c.loop-entry.invariant in
+    let step = rw (l.block, l.bits) at c.next.ensures in
+    rw step.1 (fewer-entry _ _ _ refl (some_entry _ _ (rw step.0 at (sym c.unwrap_or.ensures ∙ c.in-Some.is))))
 
 pub loop-entry-preserved : goal.loop-entry-preserved
 loop-entry-preserved c =
-    turn _ _ _ c.loop-entry.invariant c.walk_step-step.ensures (some_entry _ _ (sym c.unwrap_or.ensures ∙ c.in-Some.is))
-    (rw c.entry_line.ensures at c.line_text-p.ensures)
+    let l = c.loop-entry.invariant in
+    let step = rw (l.block, l.bits) at c.next.ensures in
+    let line = rw c.entry_line.ensures at c.line_text-p.ensures in
+    rw step.1 (record { block = refl; bits = refl; written = turn _ _ _ l.written refl (some_entry _ _ (rw step.0 at (sym c.unwrap_or.ensures ∙ c.in-Some.is))) line })
+
+pub returns : goal.returns
+returns c =
+    let l = c.loop-entry.invariant in
+    let step = rw (l.block, l.bits) at c.next.ensures in
+    finish _ _ _ l.written refl (no_entry _ (λ e q. c.in_default.not-Some e (c.unwrap_or.ensures ∙ rw step.0 q))) (rw step.1 at c.rest.ensures) c.rest_text.ensures

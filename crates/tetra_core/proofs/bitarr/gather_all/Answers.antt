@@ -1,36 +1,31 @@
-use mathlib.Core.Path.{◌≡◌, refl, sym, ◌∙◌}
-use native.Mathlib.Omega.{arith}
-use borrow.Author.Rules.{rules}
-use lib.ListN.{length}
-use lib.Seq.{take-length}
-use Rattle.bits.proofs.Laws.Writes.{put_bits-nil}
-use Rattle.tetra_core.proofs.BitBytes.{gather_all_turn, gathered_lt}
+use Rattle.std.proofs.Common.{arith, length, length-append, sym, ap, map, rules, ◌∙◌}
+use Rattle.bits.specs.Bits.{odd, put_bits}
+use Rattle.bits.proofs.Laws.Writes.{bytes-put_bits}
+use Rattle.tetra_core.proofs.BitBytes.{gathered_lt, gather_none, gather_turn}
 use Rattle.tetra_core.proofs.bitarr.gather_all.Goals as goal
-
-pub loop-done-init : goal.loop-done-init
-loop-done-init c =
-    let a = c.args in
-    (search rules, refl, sym (put_bits-nil a.s.now a.pos (λ i. omega (arith, c.type_inv.s i))))
 
 pub put_bits-requires : goal.put_bits-requires
 put_bits-requires c =
-    let b = c.args.buf.now in
-    let l = c.loop-done in
-    (omega arith, omega arith, omega arith, rw c.gather.ensures (gathered_lt b l.done c.min-k.result (omega arith)))
+    let step = c.in-Some.ensures.steps in
+    (omega arith, omega arith, omega arith, rw c.gather.ensures (gathered_lt c.in-Some.chunk.now))
 
-pub loop-done-preserved : goal.loop-done-preserved
-loop-done-preserved c =
-    let a = c.args in
-    let l = c.loop-done in
-    let k = c.min-k.result in (
-      omega arith,
-      omega arith,
-      c.put_bits.ensures ∙ rw c.gather.ensures
-          (gather_all_turn a.s.now l.s a.buf.now a.pos l.done k l.invariant.2 (omega arith) (omega arith)),
-    )
+pub loop-chunk-preserved : goal.loop-chunk-preserved
+loop-chunk-preserved c =
+    let l = c.loop-chunk in
+    let step = c.in-Some.ensures.steps in
+    let chunk = c.in-Some.chunk.now in
+    let all = ap (λ bs. put_bits l.s l.at (map odd bs)) step.1.0 in
+    record {
+      can_next = omega arith;
+      is_finite = search rules;
+      size = omega arith;
+      bytes = rw c.put_bits.ensures (bytes-put_bits _ _ _);
+      len = omega arith;
+      end = omega (arith, simp length-append at (ap length step.1.0));
+      whole = gather_turn _ _ chunk _ c.gather.ensures c.put_bits.ensures (omega arith) ∙ sym all ∙ l.invariant.whole;
+    }
 
 pub returns : goal.returns
 returns c =
-    let b = c.args.buf.now in
-    let e : c.loop-done.done ≡ length b = omega arith in
-    c.loop-done.invariant.2 ∙ rw (e, take-length)
+    let l = c.loop-chunk in
+    sym (gather_none l.s l.at _ l.invariant.bytes c.in-None.ensures.steps.1.0) ∙ l.invariant.whole
