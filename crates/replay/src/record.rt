@@ -17,6 +17,9 @@ const MOST_BYTES: usize = 128;
 
 const MOST_WINDOWS: u64 = 65536;
 
+// Beyond this bit windows behind the first end no further: they are none.
+const FAR: usize = 1 << 40;
+
 // What the original did, and so what this port has to do. Refusals are numbered 1 to 14.
 #[derive(Clone, Copy)]
 pub(crate) enum Class {
@@ -81,7 +84,7 @@ pub(crate) struct Record<'a> {
     pub(crate) class: Class,
     bytes: &'a [u8],
     // The first window; the others end one bit later each.
-    window: Cursor,
+    first: Cursor,
     pub(crate) windows: u64,
     numbers: ArrayVec<u64, MOST_WORDS>,
     // The words and the bytes that the call has to leave.
@@ -119,7 +122,7 @@ impl<'a> TryFrom<&'a [u8]> for Record<'a> {
         let call = Call::try_from(list.number()?)?;
         let class = Class::try_from(list.number()?)?;
         let bytes = list.counted_bytes()?;
-        let window = Cursor {
+        let first = Cursor {
             start: list.place()?,
             pos: list.place()?,
             end: list.place()?,
@@ -132,7 +135,7 @@ impl<'a> TryFrom<&'a [u8]> for Record<'a> {
             call,
             class,
             bytes,
-            window,
+            first,
             windows,
             numbers: list.numbers()?,
             words: Words::untouched(),
@@ -159,7 +162,7 @@ impl<'a> Record<'a> {
                 self.left = list.bytes(self.bytes.len() as u64)?;
             }
         } else if matches!(self.call, Call::Read(_) | Call::Write(_) | Call::Bits(_)) {
-            self.words.put(&[self.window.pos as u64]);
+            self.words.put(&[self.first.pos as u64]);
         }
         if matches!(self.class, Class::CutOff) {
             self.stops = list.numbers()?;
@@ -171,6 +174,16 @@ impl<'a> Record<'a> {
             }
         }
         Ok(())
+    }
+
+    // Window i. The first stands as it is recorded, however far it ends.
+    fn window(&self, i: u64) -> Cursor {
+        let end = match i {
+            0 => self.first.end,
+            _ if FAR < self.first.end => FAR,
+            _ => self.first.end.saturating_add(i as usize),
+        };
+        Cursor { end, ..self.first }
     }
 
     // The bit at which the original was cut off in window i.
@@ -192,9 +205,8 @@ impl<'a> Record<'a> {
         let bytes = &mut room[..self.bytes.len()];
         bytes.copy_from_slice(self.bytes);
         let mut out = Words::untouched();
-        let end = self.window.end.saturating_add(i as usize);
         let given = Given {
-            window: Cursor { end, ..self.window },
+            window: self.window(i),
             numbers: &self.numbers,
         };
         let answer = self.call.run(bytes, given, &mut out);
