@@ -4,7 +4,7 @@
 
 mod two;
 
-use std::io;
+use std::{fmt, io};
 use tetra_core::bitbuffer::Cursor;
 use tetra_core::refusal::Refusal;
 
@@ -13,52 +13,49 @@ const SAMPLE: [u8; 17] = [
     0x5a,
 ];
 
-fn text(rt: &impl Print, t: &str) -> io::Result<()> {
-    print!(rt; "{t}")
-}
+// The bit at which the first field begins, and how many bits each has. A field that is refused leaves the cursor to the next.
+const PAIRS: [(usize, usize, usize); 7] = [
+    (3, 5, 8),
+    (3, 64, 64),
+    (72, 64, 1),
+    (73, 64, 1),
+    (73, 65, 63),
+    (136, 0, 0),
+    (137, 0, 0),
+];
 
-fn number(rt: &impl Print, before: &str, n: u64) -> io::Result<()> {
-    print!(rt; "{before}{n}")
-}
+// A field's value in hexadecimal, or the number and the bit of its refusal.
+#[derive(Clone, Copy)]
+struct Field(Result<u64, Refusal>);
 
-fn answer(rt: &impl Print, a: Result<u64, Refusal>) -> io::Result<()> {
-    match a {
-        Ok(v) => print!(rt; " {v:x}"),
-        Err(r) => {
-            number(rt, " refused ", r.number as u64)?;
-            number(rt, " ", r.offset as u64)
+impl fmt::Display for Field {
+    fn fmt<W: fmt::Write>(&self, f: &mut fmt::Formatter<W>) -> fmt::Result {
+        match self.0 {
+            Ok(v) => write!(f, "{v:x}"),
+            Err(r) => write!(f, "refused {} {}", r.number, r.offset),
         }
     }
 }
 
 // Reads n bits and then m from a bit of the sample on.
 fn read_from(rt: &impl Print, pos: usize, n: usize, m: usize) -> io::Result<()> {
-    let s = SAMPLE;
-    let c = Cursor {
+    let window = Cursor {
         start: 0,
         pos,
         end: 136,
     };
-    let both = two::read_two(&s, c, n, m);
-    let first = both.first;
-    let second = both.second;
+    let both = two::read_two(&SAMPLE, window, n, m);
+    let (first, second) = (Field(both.first), Field(both.second));
     let c = both.cursor;
-    text(rt, "read_field")?;
-    answer(rt, first)?;
-    answer(rt, second)?;
-    number(rt, " <", c.start as u64)?;
-    number(rt, " ^", c.pos as u64)?;
-    number(rt, " >", c.end as u64)?;
-    text(rt, "\n")
+    println!(rt;
+        "read_field {first} {second} <{} ^{} >{}",
+        c.start, c.pos, c.end
+    )
 }
 
-// A field that is refused leaves the cursor to the next.
 fn main(rt: HostRuntime) -> io::Result<()> {
-    read_from(&rt, 3, 5, 8)?;
-    read_from(&rt, 3, 64, 64)?;
-    read_from(&rt, 72, 64, 1)?;
-    read_from(&rt, 73, 64, 1)?;
-    read_from(&rt, 73, 65, 63)?;
-    read_from(&rt, 136, 0, 0)?;
-    read_from(&rt, 137, 0, 0)
+    for (pos, n, m) in PAIRS {
+        read_from(&rt, pos, n, m)?;
+    }
+    Ok(())
 }

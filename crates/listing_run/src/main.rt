@@ -1,7 +1,6 @@
 // Lists the block of each file that an argument names, then writes blocks of 488 and 489 bits. Held to the file stdout.
 #![tactic(auto)]
 
-use bits::word;
 use block_lines::file::MOST_BYTES;
 use block_lines::listing::MOST_TEXT;
 use block_lines::{file, listing};
@@ -15,14 +14,6 @@ use std::rt::Runtime;
 use std::{env, io};
 use tetra_core::address::{DownlinkAddress, SsiType};
 
-fn text(rt: &impl Print, t: &[u8]) -> io::Result<()> {
-    io::writer(rt).write_all(t)
-}
-
-fn number(rt: &impl Print, n: u64) -> io::Result<()> {
-    print!(rt; "{n}")
-}
-
 fn list_named<R: Print + Eprint + Files>(rt: &R, name: &str) -> io::Result<()> {
     println!(rt; "{name}")?;
     let mut input = [0u8; MOST_BYTES];
@@ -32,7 +23,7 @@ fn list_named<R: Print + Eprint + Files>(rt: &R, name: &str) -> io::Result<()> {
     };
     let mut out = [0u8; MOST_TEXT];
     let length = file::list_file(&input[..got], &mut out);
-    text(rt, &out[..length])
+    io::writer(rt).write_all(&out[..length])
 }
 
 fn list_arguments<R: Runtime>(rt: &R) -> io::Result<()> {
@@ -45,7 +36,7 @@ fn list_arguments<R: Runtime>(rt: &R) -> io::Result<()> {
 fn list(rt: &impl Print, block: &[u8]) -> io::Result<()> {
     let mut out = [0u8; MOST_TEXT];
     let length = listing::list_block(block, MOST_BITS, &mut out);
-    text(rt, &out[..length])
+    io::writer(rt).write_all(&out[..length])
 }
 
 // A header of 43 bits: SSI 1, no elements.
@@ -68,36 +59,30 @@ fn to_ssi_1() -> ResourceToAdd {
 }
 
 // The length field of a header that begins with these two bytes: 6 bits behind the first 7.
-fn length_of(first: u8, second: u8) -> u64 {
-    word::widen(first) % 2 * 32 + word::widen(second) / 8
+fn length_of(first: u8, second: u8) -> u8 {
+    first % 2 * 32 + second / 8
 }
 
 // One PDU with so many bits of content, added to a block of 488 bits: its number of octets and the listing, or what refuses it.
 fn add_one(rt: &impl Print, content_bits: usize) -> io::Result<()> {
     let content = [255u8; 56];
     let mut block = [0u8; 61];
-    text(rt, b"add ")?;
-    number(rt, content_bits as u64)?;
     let written = writer::add(&mut block, MOST_BITS, 0, to_ssi_1(), &content, content_bits);
-    let answer = written.answer;
-    match answer {
+    match written.answer {
         Ok(()) => {
-            text(rt, b" octets ")?;
-            number(rt, length_of(block[0], block[1]))?;
-            text(rt, b"\n")?;
+            let octets = length_of(block[0], block[1]);
+            println!(rt; "add {content_bits} octets {octets}")?;
             list(rt, &block)
         }
-        Err(n) => {
-            text(rt, b" refused ")?;
-            number(rt, word::widen(n))?;
-            text(rt, b"\n")
-        }
+        Err(n) => println!(rt; "add {content_bits} refused {n}"),
     }
 }
 
 fn main(rt: HostRuntime) -> io::Result<()> {
     list_arguments(&rt)?;
     // 43 and 445 bits are 488; one more is refused.
-    add_one(&rt, 445)?;
-    add_one(&rt, 446)
+    for content_bits in [445, 446] {
+        add_one(&rt, content_bits)?;
+    }
+    Ok(())
 }

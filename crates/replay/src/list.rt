@@ -1,154 +1,90 @@
-// The list of recorded answers, taken apart. A number is one byte below 248, or 247 + n and then n bytes, most significant first. Reading
-// behind the end gives 0, and a place that is too far stays too far, so that a list that was cut off is seen where its record should end.
-const FAR: usize = 1099511627776;
+// The list of recorded answers, taken apart. A number is one byte below 248, or 247 + n and then n bytes, most significant first.
+ghost use Rattle.std.specs.Prelude.{◌+◌, ◌<◌, ◌≡◌, ◌==◌, length, IfOk, OnOk};
 
-pub(crate) const UNTOUCHED: u64 = 6148914691236517205;
+use arrayvec::ArrayVec;
+use replay_calls::answers::MOST_WORDS;
+use replay_calls::calls::UnknownCall;
 
+// What is no list: a number, a record or a page that does not end where it says, or that says what there is not.
 #[derive(Clone, Copy)]
-pub(crate) struct Number {
-    pub(crate) value: u64,
-    pub(crate) next: usize,
+pub(crate) struct Malformed;
+
+impl From<UnknownCall> for Malformed {
+    fn from(_call: UnknownCall) -> Malformed {
+        Malformed
+    }
 }
 
+// What is left of a page or of a record.
 #[derive(Clone, Copy)]
-pub(crate) struct Words {
-    pub(crate) count: usize,
-    pub(crate) next: usize,
+pub(crate) struct Reader<'a> {
+    rest: &'a [u8],
 }
 
-// A record as far as the call's numbers: the call, what the original did, where its bytes and numbers stand, and the window. A record
-// stands for as many windows as ends says: from end on, one bit longer each.
-#[derive(Clone, Copy)]
-pub(crate) struct Record {
-    pub(crate) call: u64,
-    pub(crate) class: u64,
-    pub(crate) bytes: usize,
-    pub(crate) len: usize,
-    pub(crate) start: usize,
-    pub(crate) pos: usize,
-    pub(crate) end: usize,
-    pub(crate) ends: usize,
-    pub(crate) numbers: usize,
-}
-
-// Bytes before any is taken.
-pub(crate) fn no_bytes() -> [u8; 128] {
-    [0u8; 128]
-}
-
-// Words that no call wrote.
-pub(crate) fn untouched() -> [u64; 40] {
-    [UNTOUCHED; 40]
-}
-
-fn octet(s: &[u8], at: usize) -> u8 {
-    if at < s.len() { s[at] } else { 0 }
-}
-
-// The place n bytes on.
-pub(crate) fn ahead(at: usize, n: u64) -> usize {
-    if FAR < at {
-        return FAR;
+impl<'a> Reader<'a> {
+    pub(crate) fn new(bytes: &'a [u8]) -> Reader<'a>
+        ensures { result.rest.now ≡ bytes.now }
+    {
+        Reader { rest: bytes }
     }
-    if 1099511627776 < n {
-        return FAR;
-    }
-    at + n as usize
-}
 
-fn long(s: &[u8], at: usize, n: u64) -> u64 {
-    let mut v: u64 = 0;
-    let mut i: u64 = 0;
-    while i < n {
-        v = std::num::wrapping_add_u64(
-            (v % 72057594037927936) * 256,
-            bits::word::widen(octet(s, ahead(at, i))),
-        );
-        i += 1;
+    pub(crate) fn len(&self) -> usize
+        ensures { result ≡ length self.now.rest.now }
+    {
+        self.rest.len()
     }
-    v
-}
 
-pub(crate) fn take(s: &[u8], at: usize) -> Number {
-    let b = bits::word::widen(octet(s, at));
-    let next = ahead(at, 1);
-    if b < 248 {
-        return Number { value: b, next };
+    pub(crate) fn is_empty(&self) -> bool
+        ensures { result ≡ (length self.now.rest.now == 0) }
+    {
+        self.rest.is_empty()
     }
-    let n = b - 247;
-    Number {
-        value: long(s, next, n),
-        next: ahead(next, n),
-    }
-}
 
-// A count and that many numbers, 40 at most.
-pub(crate) fn take_words(s: &[u8], at: usize, into: &mut [u64; 40]) -> Words {
-    let c = take(s, at);
-    let count = c.value;
-    if 40 < count {
-        return Words {
-            count: 0,
-            next: FAR,
-        };
+    pub(crate) fn bytes(&mut self, n: u64) -> Result<&'a [u8], Malformed>
+        ensures { IfOk result (λ taken. length self.new.rest.now + n ≡ length self.old.rest.now) }
+    {
+        let (taken, rest) = self.rest.split_at_checked(n as usize).ok_or(Malformed)?;
+        self.rest = rest;
+        Ok(taken)
     }
-    let mut next = c.next;
-    let mut i: usize = 0;
-    while i < 40 {
-        if count <= i as u64 {
-            return Words { count: i, next };
+
+    fn byte(&mut self) -> Result<u8, Malformed>
+        ensures { OnOk result (length self.new.rest.now < length self.old.rest.now) }
+    {
+        let (first, rest) = self.rest.split_first().ok_or(Malformed)?;
+        self.rest = rest;
+        Ok(*first)
+    }
+
+    pub(crate) fn number(&mut self) -> Result<u64, Malformed>
+        ensures { OnOk result (length self.new.rest.now < length self.old.rest.now) }
+    {
+        let first = u64::from(self.byte()?);
+        if first < 248 {
+            return Ok(first);
         }
-        let v = take(s, next);
-        into[i] = v.value;
-        next = v.next;
-        i += 1;
+        let digits = self.bytes(first - 247)?;
+        Ok(digits.iter().fold(0, |v, b| v << 8 | u64::from(*b)))
     }
-    Words { count: 40, next }
-}
 
-// Of pairs, each the count of those that it stands for and what holds for them, what holds for number i.
-pub(crate) fn run_of(pairs: &[u64; 40], i: u64) -> u64 {
-    let mut left = i;
-    let mut k: usize = 0;
-    while k < 39 {
-        if left < pairs[k] {
-            return pairs[k + 1];
+    pub(crate) fn place(&mut self) -> Result<usize, Malformed> {
+        Ok(self.number()? as usize)
+    }
+
+    // Bytes, after their count.
+    pub(crate) fn counted_bytes(&mut self) -> Result<&'a [u8], Malformed>
+        ensures { OnOk result (length self.new.rest.now < length self.old.rest.now) }
+    {
+        let n = self.number()?;
+        self.bytes(n)
+    }
+
+    // Numbers, after their count.
+    pub(crate) fn numbers(&mut self) -> Result<ArrayVec<u64, MOST_WORDS>, Malformed> {
+        let mut all = ArrayVec::new();
+        for _ in 0..self.number()? {
+            all.try_push(self.number()?).map_err(|_| Malformed)?;
         }
-        left = left - pairs[k];
-        k += 2;
-    }
-    0
-}
-
-// n bytes, 128 at most.
-pub(crate) fn take_bytes(s: &[u8], at: usize, n: usize, into: &mut [u8; 128]) {
-    let mut i: usize = 0;
-    while i < 128 {
-        if n <= i {
-            return;
-        }
-        into[i] = octet(s, ahead(at, i as u64));
-        i += 1;
-    }
-}
-
-pub(crate) fn take_record(s: &[u8], at: usize) -> Record {
-    let call = take(s, at);
-    let class = take(s, call.next);
-    let len = take(s, class.next);
-    let start = take(s, ahead(len.next, len.value));
-    let pos = take(s, start.next);
-    let end = take(s, pos.next);
-    let ends = take(s, end.next);
-    Record {
-        call: call.value,
-        class: class.value,
-        bytes: len.next,
-        len: len.value as usize,
-        start: start.value as usize,
-        pos: pos.value as usize,
-        end: end.value as usize,
-        ends: ends.value as usize,
-        numbers: ends.next,
+        Ok(all)
     }
 }

@@ -1,11 +1,38 @@
 // The addresses that an SSI of a kind becomes, 91 to 94: the SSI and its kind, 0 not known, 1 individual, 2 group.
-use crate::answers;
-use crate::answers::Given;
+use crate::answers::{Stop, Tell, Words};
+use crate::calls::UnknownCall;
+use crate::given::Given;
 use tetra_core::address;
 use tetra_core::address::{DownlinkAddress, SsiType, UplinkAddress};
 use tetra_mac::address::ssi_kind;
 
-fn kind_of(kind: u64) -> SsiType {
+#[derive(Clone, Copy)]
+pub enum AddressCall {
+    DownlinkNew = 91,
+    DownlinkIssi,
+    UplinkNew,
+    UplinkIssi,
+}
+
+impl TryFrom<u64> for AddressCall {
+    ghost use Rattle.replay_calls.specs.Calls.{Decodes, address_number};
+
+    type Error = UnknownCall;
+
+    ghost try_from_gives = { Decodes address_number };
+
+    fn try_from(n: u64) -> Result<AddressCall, UnknownCall> {
+        match n {
+            91 => Ok(AddressCall::DownlinkNew),
+            92 => Ok(AddressCall::DownlinkIssi),
+            93 => Ok(AddressCall::UplinkNew),
+            94 => Ok(AddressCall::UplinkIssi),
+            _ => Err(UnknownCall),
+        }
+    }
+}
+
+fn ssi_type(kind: u64) -> SsiType {
     match kind {
         0 => SsiType::Ssi,
         1 => SsiType::Issi,
@@ -13,31 +40,42 @@ fn kind_of(kind: u64) -> SsiType {
     }
 }
 
-// What is too large becomes the largest.
-fn ssi_of(v: u64) -> u32 {
-    if v < 4294967295 { v as u32 } else { 4294967295 }
-}
-
-fn downlink(a: DownlinkAddress, out: &mut [u64; 40]) -> u64 {
-    match a {
-        DownlinkAddress::Ssi(k, ssi) => answers::two(out, ssi as u64, ssi_kind(k)),
-        _ => answers::MALFORMED,
+impl Tell for DownlinkAddress {
+    fn tell(self, out: &mut Words) -> Result<(), Stop> {
+        match self {
+            DownlinkAddress::Ssi(kind, ssi) => [u64::from(ssi), ssi_kind(kind)].tell(out),
+            _ => Err(Stop::Malformed),
+        }
     }
 }
 
-fn uplink(a: UplinkAddress, out: &mut [u64; 40]) -> u64 {
-    match a {
-        UplinkAddress::Ssi(k, ssi) => answers::two(out, ssi as u64, ssi_kind(k)),
-        _ => answers::MALFORMED,
+impl Tell for UplinkAddress {
+    fn tell(self, out: &mut Words) -> Result<(), Stop> {
+        match self {
+            UplinkAddress::Ssi(kind, ssi) => [u64::from(ssi), ssi_kind(kind)].tell(out),
+            _ => Err(Stop::Malformed),
+        }
     }
 }
 
-pub(crate) fn call(call: u64, n: Given, out: &mut [u64; 40]) -> u64 {
-    let ssi = ssi_of(n.a);
-    match call {
-        91 => downlink(address::new(ssi, kind_of(n.b)), out),
-        92 => downlink(address::issi(ssi), out),
-        93 => uplink(address::uplink_new(ssi, kind_of(n.b)), out),
-        _ => uplink(address::uplink_issi(ssi), out),
+impl AddressCall {
+    pub(crate) fn name(self) -> &'static str {
+        match self {
+            AddressCall::DownlinkNew => "downlink address, new",
+            AddressCall::DownlinkIssi => "downlink address, issi",
+            AddressCall::UplinkNew => "uplink address, new",
+            AddressCall::UplinkIssi => "uplink address, issi",
+        }
+    }
+
+    pub(crate) fn run(self, given: Given<'_>, out: &mut Words) -> Result<(), Stop> {
+        let ssi = given.ssi(0);
+        let kind = ssi_type(given.number(1));
+        match self {
+            AddressCall::DownlinkNew => address::new(ssi, kind).tell(out),
+            AddressCall::DownlinkIssi => address::issi(ssi).tell(out),
+            AddressCall::UplinkNew => address::uplink_new(ssi, kind).tell(out),
+            AddressCall::UplinkIssi => address::uplink_issi(ssi).tell(out),
+        }
     }
 }

@@ -1,115 +1,155 @@
-// The numbers that a call is given, and its answer as a status and words: the window first, start, pos and end, and then the value.
-use tetra_core::bitbuffer::{Cursor, Moved, Read};
+// What a call answers: words, of which a call puts some and leaves the others as they are, or why it stops.
+ghost use Rattle.std.specs.Prelude.{◌≡◌, replicate};
+ghost use Rattle.replay_calls.specs.Words.{put};
+
+use tetra_core::bitbuffer::{Copied, Cursor, Moved, Read};
 use tetra_core::refusal::Refusal;
 
-// The status of a call that there is none of.
-pub const MALFORMED: u64 = 255;
-
-// The first numbers of a call; one that is not given is 0.
+// Why a call answers nothing.
 #[derive(Clone, Copy)]
-pub(crate) struct Given {
-    pub(crate) a: u64,
-    pub(crate) b: u64,
-    pub(crate) c: u64,
-    pub(crate) d: u64,
-    pub(crate) e: u64,
+pub enum Stop {
+    // Refused by a number, a read of the C interface also at a bit; of any other call the bit is 0.
+    Refused { number: u8, bit: u64 },
+    // What the call is given is no record of it.
+    Malformed,
 }
 
-pub(crate) fn word(words: &[u64], i: usize) -> u64 {
-    if i < words.len() { words[i] } else { 0 }
+// The words that the longest answer has room in, some of which no call puts.
+pub const MOST_WORDS: usize = 40;
+
+// The words of an answer, the first of which a call puts.
+#[derive(Clone, Copy)]
+pub struct Words {
+    pub words: [u64; MOST_WORDS],
 }
 
-pub(crate) fn first_numbers(words: &[u64]) -> Given {
-    Given {
-        a: word(words, 0),
-        b: word(words, 1),
-        c: word(words, 2),
-        d: word(words, 3),
-        e: word(words, 4),
+impl Words {
+    // Words that no call has put.
+    pub fn untouched() -> Words
+        ensures { result.words ≡ replicate MOST_WORDS 6148914691236517205 }
+    {
+        Words {
+            words: [0x5555_5555_5555_5555; MOST_WORDS],
+        }
+    }
+
+    // Puts words at the start, as many as there is room for.
+    pub fn put(&mut self, words: &[u64])
+        ensures { self.new.words ≡ put self.old.words words.now }
+    {
+        let n = words.len().min(MOST_WORDS);
+        self.words[..n].copy_from_slice(&words[..n]);
+    }
+
+    fn put_window(&mut self, c: Cursor) {
+        self.put(&[c.start as u64, c.pos as u64, c.end as u64]);
+    }
+
+    // The value of a call on a window, behind the window.
+    fn put_value(&mut self, v: u64) {
+        self.words[3] = v;
     }
 }
 
-pub(crate) fn flag(b: bool) -> u64 {
-    if b { 1 } else { 0 }
+// The status of a read of the C interface: 0, 255, or the number of its refusal with 256 times the refused field's bit.
+pub(crate) fn read_status(status: u64) -> Result<(), Stop> {
+    let bit = status / 256;
+    match (status % 256) as u8 {
+        0 if bit == 0 => Ok(()),
+        255 => Err(Stop::Malformed),
+        number => Err(Stop::Refused { number, bit }),
+    }
 }
 
-// A number as an octet: what is too large becomes the largest.
-pub(crate) fn octet(v: u64) -> u8 {
-    if v < 255 { v as u8 } else { 255 }
-}
-
-// An offset that is given as its two's complement. The least of all is not among those recorded.
-pub(crate) fn signed(v: u64) -> isize {
-    if v < 9223372036854775808 {
-        return v as isize;
+// The status of any other call of it: 0, 255, or the number of its refusal.
+pub(crate) fn status(status: u64) -> Result<(), Stop> {
+    match u8::try_from(status) {
+        Ok(0) => Ok(()),
+        Ok(number @ 1..=254) => Err(Stop::Refused { number, bit: 0 }),
+        _ => Err(Stop::Malformed),
     }
-    if v == 9223372036854775808 {
-        return 0;
-    }
-    let back = 18446744073709551615 - v + 1;
-    0 - back as isize
 }
 
 // A bit buffer's call is refused at the bit where it begins.
-pub(crate) fn status(r: Refusal) -> u64 {
-    if r.offset != 0 {
-        return MALFORMED;
-    }
-    r.number as u64
-}
-
-pub(crate) fn put_window(out: &mut [u64; 40], c: Cursor) {
-    out[0] = c.start as u64;
-    out[1] = c.pos as u64;
-    out[2] = c.end as u64;
-}
-
-pub(crate) fn number(out: &mut [u64; 40], a: Result<u64, Refusal>) -> u64 {
-    match a {
-        Ok(v) => {
-            out[3] = v;
-            0
+impl From<Refusal> for Stop {
+    fn from(r: Refusal) -> Stop {
+        match r.offset {
+            0 => Stop::Refused {
+                number: r.number,
+                bit: 0,
+            },
+            _ => Stop::Malformed,
         }
-        Err(r) => status(r),
     }
 }
 
-pub(crate) fn outcome(a: Result<(), u8>) -> u64 {
-    match a {
-        Ok(()) => 0,
-        Err(n) => n as u64,
+// What is told as an answer's words.
+pub(crate) trait Tell {
+    fn tell(self, out: &mut Words) -> Result<(), Stop>;
+}
+
+impl<const N: usize> Tell for [u64; N] {
+    fn tell(self, out: &mut Words) -> Result<(), Stop> {
+        out.put(&self);
+        Ok(())
     }
 }
 
-pub(crate) fn read(out: &mut [u64; 40], done: Read<u64>) -> u64 {
-    let answer = done.answer;
-    put_window(out, done.cursor);
-    number(out, answer)
-}
-
-pub(crate) fn moved(out: &mut [u64; 40], done: Moved) -> u64 {
-    let answer = done.answer;
-    put_window(out, done.cursor);
-    outcome(answer)
-}
-
-pub(crate) fn opened(out: &mut [u64; 40], a: Result<Cursor, Refusal>) -> u64 {
-    match a {
-        Ok(c) => {
-            put_window(out, c);
-            0
+// What there is not has no word.
+impl<T: Tell> Tell for Option<T> {
+    fn tell(self, out: &mut Words) -> Result<(), Stop> {
+        match self {
+            Some(told) => told.tell(out),
+            None => Ok(()),
         }
-        Err(r) => status(r),
     }
 }
 
-pub(crate) fn one(out: &mut [u64; 40], v: u64) -> u64 {
-    out[0] = v;
-    0
+impl Tell for Result<(), u8> {
+    fn tell(self, _out: &mut Words) -> Result<(), Stop> {
+        match self {
+            Ok(()) => Ok(()),
+            Err(number) => Err(Stop::Refused { number, bit: 0 }),
+        }
+    }
 }
 
-pub(crate) fn two(out: &mut [u64; 40], v: u64, w: u64) -> u64 {
-    out[0] = v;
-    out[1] = w;
-    0
+impl Tell for Read<u64> {
+    fn tell(self, out: &mut Words) -> Result<(), Stop> {
+        let answer = self.answer;
+        out.put_window(self.cursor);
+        match answer {
+            Ok(v) => out.put_value(v),
+            Err(r) => return Err(Stop::from(r)),
+        }
+        Ok(())
+    }
+}
+
+impl Tell for Moved {
+    fn tell(self, out: &mut Words) -> Result<(), Stop> {
+        let answer = self.answer;
+        out.put_window(self.cursor);
+        answer.tell(out)
+    }
+}
+
+// Behind the window that was written, the place in the other.
+impl Tell for Copied {
+    fn tell(self, out: &mut Words) -> Result<(), Stop> {
+        let answer = self.answer;
+        out.put_window(self.cursor);
+        out.put_value(self.source.pos as u64);
+        answer.tell(out)
+    }
+}
+
+impl Tell for Result<Cursor, Refusal> {
+    fn tell(self, out: &mut Words) -> Result<(), Stop> {
+        match self {
+            Ok(c) => out.put_window(c),
+            Err(r) => return Err(Stop::from(r)),
+        }
+        Ok(())
+    }
 }

@@ -1,9 +1,11 @@
 // The enums that are a field, 80 to 90: of a number the case by its name, counted from 0 as it is declared, and the code of that case again;
 // no word where the number has no case.
-use crate::answers;
-use crate::answers::Given;
+use crate::answers::{Stop, Tell, Words};
+use crate::calls::UnknownCall;
+use crate::given::Given;
 use access_assign::enums::access_code;
 use access_assign::enums::access_code::AccessCode;
+use access_assign::structs::access_field::AccessField;
 use access_assign::structs::base_frame_length::BaseFrameLength;
 use access_assign::structs::{access_field, base_frame_length};
 use mac_resource::enums::mac_resource_addr_type as addr_type;
@@ -16,86 +18,186 @@ use tetra_fields::enums::{
     reservation_requirement as reservation,
 };
 
-fn capacity(a: BasicSlotgrantCapAlloc) -> u64 {
-    match a {
-        BasicSlotgrantCapAlloc::FirstSubslotGranted => 0,
-        BasicSlotgrantCapAlloc::Grant1Slot => 1,
-        BasicSlotgrantCapAlloc::Grant2Slots => 2,
-        BasicSlotgrantCapAlloc::Grant3Slots => 3,
-        BasicSlotgrantCapAlloc::Grant4Slots => 4,
-        BasicSlotgrantCapAlloc::Grant5Slots => 5,
-        BasicSlotgrantCapAlloc::Grant6Slots => 6,
-        BasicSlotgrantCapAlloc::Grant8Slots => 7,
-        BasicSlotgrantCapAlloc::Grant10Slots => 8,
-        BasicSlotgrantCapAlloc::Grant13Slots => 9,
-        BasicSlotgrantCapAlloc::Grant17Slots => 10,
-        BasicSlotgrantCapAlloc::Grant24Slots => 11,
-        BasicSlotgrantCapAlloc::Grant34Slots => 12,
-        BasicSlotgrantCapAlloc::Grant51Slots => 13,
-        BasicSlotgrantCapAlloc::Grant68Slots => 14,
-        BasicSlotgrantCapAlloc::SecondSubslotGranted => 15,
+#[derive(Clone, Copy)]
+pub enum CodeCall {
+    Capacity = 80,
+    GrantingDelay,
+    DelayCount,
+    Reservation,
+    ReservationFor,
+    AccessCode,
+    BaseFrameLength,
+    AccessField,
+    AddressType,
+    CapacityFor,
+    Granted,
+}
+
+impl TryFrom<u64> for CodeCall {
+    ghost use Rattle.replay_calls.specs.Calls.{Decodes, code_number};
+
+    type Error = UnknownCall;
+
+    ghost try_from_gives = { Decodes code_number };
+
+    fn try_from(n: u64) -> Result<CodeCall, UnknownCall> {
+        match n {
+            80 => Ok(CodeCall::Capacity),
+            81 => Ok(CodeCall::GrantingDelay),
+            82 => Ok(CodeCall::DelayCount),
+            83 => Ok(CodeCall::Reservation),
+            84 => Ok(CodeCall::ReservationFor),
+            85 => Ok(CodeCall::AccessCode),
+            86 => Ok(CodeCall::BaseFrameLength),
+            87 => Ok(CodeCall::AccessField),
+            88 => Ok(CodeCall::AddressType),
+            89 => Ok(CodeCall::CapacityFor),
+            90 => Ok(CodeCall::Granted),
+            _ => Err(UnknownCall),
+        }
     }
 }
 
-fn frame_length(a: BaseFrameLength) -> u64 {
-    match a {
-        BaseFrameLength::ReservedSubslot => 0,
-        BaseFrameLength::CLCHSubslot => 1,
-        BaseFrameLength::OngoingFrame => 2,
-        BaseFrameLength::Subslots1 => 3,
-        BaseFrameLength::Subslots2 => 4,
-        BaseFrameLength::Subslots3 => 5,
-        BaseFrameLength::Subslots4 => 6,
-        BaseFrameLength::Subslots5 => 7,
-        BaseFrameLength::Subslots6 => 8,
-        BaseFrameLength::Subslots8 => 9,
-        BaseFrameLength::Subslots10 => 10,
-        BaseFrameLength::Subslots12 => 11,
-        BaseFrameLength::Subslots16 => 12,
-        BaseFrameLength::Subslots20 => 13,
-        BaseFrameLength::Subslots24 => 14,
-        BaseFrameLength::Subslots32 => 15,
+// An enum that is a field.
+trait Coded {
+    // The place of the case that has the name.
+    fn place(self) -> u64;
+
+    fn code(self) -> u64;
+}
+
+impl Coded for BasicSlotgrantCapAlloc {
+    fn place(self) -> u64 {
+        match self {
+            BasicSlotgrantCapAlloc::FirstSubslotGranted => 0,
+            BasicSlotgrantCapAlloc::Grant1Slot => 1,
+            BasicSlotgrantCapAlloc::Grant2Slots => 2,
+            BasicSlotgrantCapAlloc::Grant3Slots => 3,
+            BasicSlotgrantCapAlloc::Grant4Slots => 4,
+            BasicSlotgrantCapAlloc::Grant5Slots => 5,
+            BasicSlotgrantCapAlloc::Grant6Slots => 6,
+            BasicSlotgrantCapAlloc::Grant8Slots => 7,
+            BasicSlotgrantCapAlloc::Grant10Slots => 8,
+            BasicSlotgrantCapAlloc::Grant13Slots => 9,
+            BasicSlotgrantCapAlloc::Grant17Slots => 10,
+            BasicSlotgrantCapAlloc::Grant24Slots => 11,
+            BasicSlotgrantCapAlloc::Grant34Slots => 12,
+            BasicSlotgrantCapAlloc::Grant51Slots => 13,
+            BasicSlotgrantCapAlloc::Grant68Slots => 14,
+            BasicSlotgrantCapAlloc::SecondSubslotGranted => 15,
+        }
+    }
+
+    fn code(self) -> u64 {
+        cap_alloc::into_raw(self)
     }
 }
 
-fn address(a: MacResourceAddrType) -> u64 {
-    match a {
-        MacResourceAddrType::NullPdu => 0,
-        MacResourceAddrType::Ssi => 1,
-        MacResourceAddrType::EventLabel => 2,
-        MacResourceAddrType::Ussi => 3,
-        MacResourceAddrType::Smi => 4,
-        MacResourceAddrType::SsiAndEventLabel => 5,
-        MacResourceAddrType::SsiAndUsageMarker => 6,
-        MacResourceAddrType::SmiAndEventLabel => 7,
+impl Coded for BasicSlotgrantGrantingDelay {
+    fn place(self) -> u64 {
+        match self {
+            BasicSlotgrantGrantingDelay::CapAllocAtNextOpportunity => 0,
+            BasicSlotgrantGrantingDelay::DelayNOpportunities(_) => 1,
+            BasicSlotgrantGrantingDelay::AllocStartsAtOpportunityInFr18 => 2,
+            BasicSlotgrantGrantingDelay::WaitForAnotherSlotgrantMessage => 3,
+        }
     }
-}
 
-fn code(a: AccessCode) -> u64 {
-    match a {
-        AccessCode::AccessCodeA => 0,
-        AccessCode::AccessCodeB => 1,
-        AccessCode::AccessCodeC => 2,
-        AccessCode::AccessCodeD => 3,
-    }
-}
-
-fn delay_kind(d: BasicSlotgrantGrantingDelay) -> u64 {
-    match d {
-        BasicSlotgrantGrantingDelay::CapAllocAtNextOpportunity => 0,
-        BasicSlotgrantGrantingDelay::DelayNOpportunities(_) => 1,
-        BasicSlotgrantGrantingDelay::AllocStartsAtOpportunityInFr18 => 2,
-        BasicSlotgrantGrantingDelay::WaitForAnotherSlotgrantMessage => 3,
+    fn code(self) -> u64 {
+        delay::into_raw(self)
     }
 }
 
 // A case has a name of its own by what it asks for: a subslot 0, slots their count, more than 68 slots 99.
-fn asked(a: ReservationRequirement) -> u64 {
-    match reservation::to_req_slotcount(a) {
-        ReqSlotcount::Subslot => 0,
-        ReqSlotcount::Slots(n) => n as u64,
-        ReqSlotcount::Over68 => 99,
+impl Coded for ReservationRequirement {
+    fn place(self) -> u64 {
+        match reservation::to_req_slotcount(self) {
+            ReqSlotcount::Subslot => 0,
+            ReqSlotcount::Slots(n) => n as u64,
+            ReqSlotcount::Over68 => 99,
+        }
     }
+
+    fn code(self) -> u64 {
+        reservation::into_raw(self)
+    }
+}
+
+impl Coded for AccessCode {
+    fn place(self) -> u64 {
+        match self {
+            AccessCode::AccessCodeA => 0,
+            AccessCode::AccessCodeB => 1,
+            AccessCode::AccessCodeC => 2,
+            AccessCode::AccessCodeD => 3,
+        }
+    }
+
+    fn code(self) -> u64 {
+        access_code::into_raw(self)
+    }
+}
+
+impl Coded for BaseFrameLength {
+    fn place(self) -> u64 {
+        match self {
+            BaseFrameLength::ReservedSubslot => 0,
+            BaseFrameLength::CLCHSubslot => 1,
+            BaseFrameLength::OngoingFrame => 2,
+            BaseFrameLength::Subslots1 => 3,
+            BaseFrameLength::Subslots2 => 4,
+            BaseFrameLength::Subslots3 => 5,
+            BaseFrameLength::Subslots4 => 6,
+            BaseFrameLength::Subslots5 => 7,
+            BaseFrameLength::Subslots6 => 8,
+            BaseFrameLength::Subslots8 => 9,
+            BaseFrameLength::Subslots10 => 10,
+            BaseFrameLength::Subslots12 => 11,
+            BaseFrameLength::Subslots16 => 12,
+            BaseFrameLength::Subslots20 => 13,
+            BaseFrameLength::Subslots24 => 14,
+            BaseFrameLength::Subslots32 => 15,
+        }
+    }
+
+    fn code(self) -> u64 {
+        base_frame_length::into_raw(self)
+    }
+}
+
+impl Coded for MacResourceAddrType {
+    fn place(self) -> u64 {
+        match self {
+            MacResourceAddrType::NullPdu => 0,
+            MacResourceAddrType::Ssi => 1,
+            MacResourceAddrType::EventLabel => 2,
+            MacResourceAddrType::Ussi => 3,
+            MacResourceAddrType::Smi => 4,
+            MacResourceAddrType::SsiAndEventLabel => 5,
+            MacResourceAddrType::SsiAndUsageMarker => 6,
+            MacResourceAddrType::SmiAndEventLabel => 7,
+        }
+    }
+
+    fn code(self) -> u64 {
+        addr_type::into_raw(self)
+    }
+}
+
+// The place and the code of the case that there is.
+fn case<T: Coded + Copy>(found: Option<T>, out: &mut Words) -> Result<(), Stop> {
+    found.map(|a| [a.place(), a.code()]).tell(out)
+}
+
+// Both cases of an access field, and its code.
+fn field(f: AccessField) -> [u64; 3] {
+    let access_code = f.access_code;
+    let length = f.base_frame_len;
+    [
+        access_code.place(),
+        length.place(),
+        access_field::into_raw(f),
+    ]
 }
 
 // What a case grants: the first subslot 0, slots their count, the second subslot 99.
@@ -107,101 +209,41 @@ fn granted(a: BasicSlotgrantCapAlloc) -> u64 {
     }
 }
 
-fn capacity_found(a: Option<BasicSlotgrantCapAlloc>, out: &mut [u64; 40]) -> u64 {
-    match a {
-        Some(a) => answers::two(out, capacity(a), cap_alloc::into_raw(a)),
-        None => 0,
+impl CodeCall {
+    pub(crate) fn name(self) -> &'static str {
+        match self {
+            CodeCall::Capacity => "codes of BasicSlotgrantCapAlloc",
+            CodeCall::GrantingDelay => "codes of BasicSlotgrantGrantingDelay",
+            CodeCall::DelayCount => "code of a delay count",
+            CodeCall::Reservation => "codes of ReservationRequirement, to_req_slotcount",
+            CodeCall::ReservationFor => "reservation, from_req_slotcount",
+            CodeCall::AccessCode => "codes of AccessCode",
+            CodeCall::BaseFrameLength => "codes of BaseFrameLength",
+            CodeCall::AccessField => "codes of AccessField",
+            CodeCall::AddressType => "codes of MacResourceAddrType",
+            CodeCall::CapacityFor => "capacity, from_req_slotcount",
+            CodeCall::Granted => "capacity, to_req_slotcount",
+        }
     }
-}
 
-fn delay_found(d: Option<BasicSlotgrantGrantingDelay>, out: &mut [u64; 40]) -> u64 {
-    match d {
-        Some(d) => answers::two(out, delay_kind(d), delay::into_raw(d)),
-        None => 0,
+    pub(crate) fn run(self, given: Given<'_>, out: &mut Words) -> Result<(), Stop> {
+        let v = given.number(0);
+        let req = given.count(0);
+        match self {
+            CodeCall::Capacity => case(cap_alloc::try_from(v), out),
+            CodeCall::GrantingDelay => case(delay::try_from(v), out),
+            CodeCall::DelayCount => {
+                let d = BasicSlotgrantGrantingDelay::DelayNOpportunities(given.octet(0));
+                [d.code()].tell(out)
+            }
+            CodeCall::Reservation => case(reservation::try_from(v), out),
+            CodeCall::ReservationFor => case(Some(reservation::from_req_slotcount(req)), out),
+            CodeCall::AccessCode => case(access_code::try_from(v), out),
+            CodeCall::BaseFrameLength => case(base_frame_length::try_from(v), out),
+            CodeCall::AccessField => field(access_field::from_raw(v)).tell(out),
+            CodeCall::AddressType => case(addr_type::try_from(v), out),
+            CodeCall::CapacityFor => case(cap_alloc::from_req_slotcount(req), out),
+            CodeCall::Granted => [granted(cap_alloc::from_raw(v))].tell(out),
+        }
     }
-}
-
-fn reserved(a: ReservationRequirement, out: &mut [u64; 40]) -> u64 {
-    answers::two(out, asked(a), reservation::into_raw(a))
-}
-
-fn reservation_found(a: Option<ReservationRequirement>, out: &mut [u64; 40]) -> u64 {
-    match a {
-        Some(a) => reserved(a, out),
-        None => 0,
-    }
-}
-
-fn code_found(a: Option<AccessCode>, out: &mut [u64; 40]) -> u64 {
-    match a {
-        Some(a) => answers::two(out, code(a), access_code::into_raw(a)),
-        None => 0,
-    }
-}
-
-fn frame_length_found(l: Option<BaseFrameLength>, out: &mut [u64; 40]) -> u64 {
-    match l {
-        Some(l) => { answers::two(out, frame_length(l), base_frame_length::into_raw(l)) }
-        None => 0,
-    }
-}
-
-fn address_found(a: Option<MacResourceAddrType>, out: &mut [u64; 40]) -> u64 {
-    match a {
-        Some(a) => answers::two(out, address(a), addr_type::into_raw(a)),
-        None => 0,
-    }
-}
-
-fn grant_codes(call: u64, v: u64, out: &mut [u64; 40]) -> u64 {
-    if call == 80 {
-        return capacity_found(cap_alloc::try_from(v), out);
-    }
-    if call == 81 {
-        return delay_found(delay::try_from(v), out);
-    }
-    let d = BasicSlotgrantGrantingDelay::DelayNOpportunities(answers::octet(v));
-    answers::one(out, delay::into_raw(d))
-}
-
-fn reservations(call: u64, v: u64, out: &mut [u64; 40]) -> u64 {
-    if call == 83 {
-        return reservation_found(reservation::try_from(v), out);
-    }
-    reserved(reservation::from_req_slotcount(v as usize), out)
-}
-
-fn field_codes(call: u64, v: u64, out: &mut [u64; 40]) -> u64 {
-    if call == 85 {
-        return code_found(access_code::try_from(v), out);
-    }
-    if call == 86 {
-        return frame_length_found(base_frame_length::try_from(v), out);
-    }
-    let f = access_field::from_raw(v);
-    let a = f.access_code;
-    let l = f.base_frame_len;
-    out[2] = access_field::into_raw(f);
-    answers::two(out, code(a), frame_length(l))
-}
-
-fn last_codes(call: u64, v: u64, out: &mut [u64; 40]) -> u64 {
-    match call {
-        88 => address_found(addr_type::try_from(v), out),
-        89 => capacity_found(cap_alloc::from_req_slotcount(v as usize), out),
-        _ => answers::one(out, granted(cap_alloc::from_raw(v))),
-    }
-}
-
-pub(crate) fn call(call: u64, n: Given, out: &mut [u64; 40]) -> u64 {
-    if call < 83 {
-        return grant_codes(call, n.a, out);
-    }
-    if call < 85 {
-        return reservations(call, n.a, out);
-    }
-    if call < 88 {
-        return field_codes(call, n.a, out);
-    }
-    last_codes(call, n.a, out)
 }

@@ -1,0 +1,225 @@
+// A record of the list: a call, the windows that it is made on, and what the original did.
+ghost use Rattle.std.specs.Prelude.{◌≤◌, length};
+ghost use Rattle.replay.specs.declared.record.TheConstants.{MOST_BYTES};
+
+use crate::difference::{Difference, first_unequal};
+use crate::list::{Malformed, Reader};
+use arrayvec::ArrayVec;
+use replay_calls::answers::{MOST_WORDS, Stop, Words};
+use replay_calls::block_calls::BlockCall;
+use replay_calls::calls::Call;
+use replay_calls::given::Given;
+use replay_calls::header_calls::BitsCall;
+use std::fmt;
+use tetra_core::bitbuffer::Cursor;
+
+const MOST_BYTES: usize = 128;
+
+const MOST_WINDOWS: u64 = 65536;
+
+// Beyond this bit windows behind the first end no further: they are none.
+const FAR: usize = 1 << 40;
+
+// What the original did, and so what this port has to do. Refusals are numbered 1 to 14.
+#[derive(Clone, Copy)]
+pub(crate) enum Class {
+    Completed,
+    Refused,
+    // Refused since the bits are at their end.
+    CutOff,
+    // Stopped, where a listed difference has this port complete.
+    ListedCompleted,
+    // Completed, where a listed difference has this port refuse by the number.
+    ListedRefused(u64),
+    // Refused, and this port by the number.
+    RefusedBy(u64),
+}
+
+impl TryFrom<u64> for Class {
+    type Error = Malformed;
+
+    fn try_from(class: u64) -> Result<Class, Malformed> {
+        match class {
+            0 => Ok(Class::Completed),
+            1 => Ok(Class::Refused),
+            2 => Ok(Class::CutOff),
+            3 => Ok(Class::ListedCompleted),
+            17..=30 => Ok(Class::ListedRefused(class - 16)),
+            33..=46 => Ok(Class::RefusedBy(class - 32)),
+            _ => Err(Malformed),
+        }
+    }
+}
+
+impl fmt::Display for Class {
+    fn fmt<W: fmt::Write>(&self, f: &mut fmt::Formatter<W>) -> fmt::Result {
+        match self {
+            Class::Completed => write!(f, "completed"),
+            Class::Refused => write!(f, "refused"),
+            Class::CutOff => write!(f, "1"),
+            Class::ListedCompleted | Class::ListedRefused(_) => write!(f, "a listed difference"),
+            Class::RefusedBy(number) => write!(f, "{number}"),
+        }
+    }
+}
+
+impl Class {
+    // Whether this port has to answer so; stop is the bit at which the original was cut off.
+    fn allows(self, stop: Option<u64>, answer: Result<(), Stop>) -> bool {
+        match (self, answer) {
+            (Class::Completed | Class::ListedCompleted, Ok(())) => true,
+            (Class::Refused, Err(Stop::Refused { number: 1..=14, .. })) => true,
+            (Class::CutOff, Err(Stop::Refused { number: 1, bit })) => stop == Some(bit),
+            (Class::ListedRefused(n) | Class::RefusedBy(n), Err(Stop::Refused { number, .. })) => {
+                u64::from(number) == n
+            }
+            _ => false,
+        }
+    }
+}
+
+#[derive(Drop)]
+pub(crate) struct Record<'a> {
+    pub(crate) call: Call,
+    pub(crate) class: Class,
+    bytes: &'a [u8],
+    // The first window; the others end one bit later each.
+    first: Cursor,
+    pub(crate) windows: u64,
+    numbers: ArrayVec<u64, MOST_WORDS>,
+    // The words and the bytes that the call has to leave.
+    words: Words,
+    left: &'a [u8],
+    // The bits from pos at which the original was cut off, in pairs: for how many windows, and the bit.
+    stops: ArrayVec<u64, MOST_WORDS>,
+    ghost short: { length bytes.now ≤ MOST_BYTES },
+}
+
+fn writes(call: Call) -> bool {
+    matches!(
+        call,
+        Call::Write(_)
+            | Call::Bits(BitsCall::WriteBits)
+            | Call::WriteSlice(_)
+            | Call::Split(_)
+            | Call::Block(BlockCall::Add | BlockCall::Finish)
+    )
+}
+
+// Whether the words of an answer are recorded where the original did not complete, too.
+fn always_answers(call: Call) -> bool {
+    !matches!(
+        call,
+        Call::Read(_) | Call::Write(_) | Call::Bits(_) | Call::Length(_)
+    )
+}
+
+impl<'a> TryFrom<&'a [u8]> for Record<'a> {
+    type Error = Malformed;
+
+    fn try_from(record: &'a [u8]) -> Result<Record<'a>, Malformed> {
+        let mut list = Reader::new(record);
+        let call = Call::try_from(list.number()?)?;
+        let class = Class::try_from(list.number()?)?;
+        let bytes = list.counted_bytes()?;
+        let first = Cursor {
+            start: list.place()?,
+            pos: list.place()?,
+            end: list.place()?,
+        };
+        let windows = list.number()?;
+        if MOST_BYTES < bytes.len() || windows == 0 || MOST_WINDOWS < windows {
+            return Err(Malformed);
+        }
+        let mut record = Record {
+            call,
+            class,
+            bytes,
+            first,
+            windows,
+            numbers: list.numbers()?,
+            words: Words::untouched(),
+            left: bytes,
+            stops: ArrayVec::new(),
+        };
+        record.read_answer(&mut list)?;
+        if list.is_empty() {
+            Ok(record)
+        } else {
+            Err(Malformed)
+        }
+    }
+}
+
+impl<'a> Record<'a> {
+    // What the call has to leave. A call that is refused leaves bytes and cursor as they were.
+    fn read_answer(&mut self, list: &mut Reader<'a>) -> Result<(), Malformed> {
+        if matches!(self.class, Class::Completed) || always_answers(self.call) {
+            self.words.put(&list.numbers()?);
+            if matches!(self.class, Class::Completed | Class::ListedCompleted)
+                && writes(self.call)
+            {
+                self.left = list.bytes(self.bytes.len() as u64)?;
+            }
+        } else if matches!(self.call, Call::Read(_) | Call::Write(_) | Call::Bits(_)) {
+            self.words.put(&[self.first.pos as u64]);
+        }
+        if matches!(self.class, Class::CutOff) {
+            self.stops = list.numbers()?;
+            // They are given for each window, and for no more.
+            let windows = self.windows;
+            let last = self.stop(windows.saturating_sub(1));
+            if last.is_none() || self.stop(windows).is_some() {
+                return Err(Malformed);
+            }
+        }
+        Ok(())
+    }
+
+    // Window i. The first stands as it is recorded, however far it ends.
+    fn window(&self, i: u64) -> Cursor {
+        let end = match i {
+            0 => self.first.end,
+            _ if FAR < self.first.end => FAR,
+            _ => self.first.end.saturating_add(i as usize),
+        };
+        Cursor { end, ..self.first }
+    }
+
+    // The bit at which the original was cut off in window i.
+    fn stop(&self, i: u64) -> Option<u64> {
+        let mut before = i;
+        let (pairs, _) = self.stops.as_chunks::<2>();
+        for [windows, bit] in pairs {
+            if before < *windows {
+                return Some(*bit);
+            }
+            before -= *windows;
+        }
+        None
+    }
+
+    // The call on window i.
+    pub(crate) fn check(&self, i: u64) -> Result<(), Difference> {
+        let mut room = [0u8; MOST_BYTES];
+        let bytes = &mut room[..self.bytes.len()];
+        bytes.copy_from_slice(self.bytes);
+        let mut out = Words::untouched();
+        let given = Given {
+            window: self.window(i),
+            numbers: &self.numbers,
+        };
+        let answer = self.call.run(bytes, given, &mut out);
+        let stop = self.stop(i);
+        if !self.class.allows(stop, answer) {
+            return Err(Difference::Status(answer, self.class, stop));
+        }
+        if let Some(word) = first_unequal(&out.words, &self.words.words) {
+            return Err(Difference::Word(word));
+        }
+        if let Some(byte) = first_unequal(bytes, self.left) {
+            return Err(Difference::Byte(byte));
+        }
+        Ok(())
+    }
+}
