@@ -84,16 +84,6 @@ pub fn ending_in(a: Ahead, left: usize) -> Ahead
     }
 }
 
-// Nothing is refused.
-pub fn no_refusal() -> Refusal
-    ensures { result ≡ record { number = 0; offset = 0 } }
-{
-    Refusal {
-        number: refusal::NONE,
-        offset: 0,
-    }
-}
-
 // The refusal of one field, at the offset o, that does not end within the bits left.
 pub fn field_past_end(o: usize) -> Refusal
     ensures { result ≡ record { number = 1; offset = o } }

@@ -33,8 +33,7 @@ pub const DELAY_COUNT: u8 = 14;
 
 // Why a read is refused, and the first bit of the refused field, counted from the header's start.
 // A refused write or length has only a number. The order of fields here, in MacResource and ResourcePdu is chosen so that the parts of an
-// answer's cases lie on each other whole: then the compiler keeps answers in registers. For the same reason a part of a header is no enum,
-// but a struct with a refusal beside its value, of number 0 where nothing is refused.
+// answer's cases lie on each other whole: then the compiler keeps answers in registers.
 #[derive(Clone, Copy)]
 pub struct Refusal {
     pub offset: usize,
