@@ -129,7 +129,7 @@ fn access_assign_of(header: u64, one: u64, two: u64, second: usize) -> Result<Ac
 }
 
 // The ACCESS-ASSIGN that is ahead, and what is ahead after it.
-fn read_access_assign(a: Ahead) -> Result<(AccessAssign, Ahead), Refusal>
+fn read_access_assign(a: Ahead) -> Result<(Ahead, AccessAssign), Refusal>
     requires { Ready a assign_size }
     ensures { ReadsNext read_access_assign a assign_size result }
 {
@@ -139,13 +139,13 @@ fn read_access_assign(a: Ahead) -> Result<(AccessAssign, Ahead), Refusal>
     }
     let x = codec::next_bits(a, SIZE);
     let assign = access_assign_of(x / HEADER % 4, x / FIELD_ONE % 64, x % 64, o + FIELD_TWO_AT)?;
-    Ok((assign, codec::advance(a, SIZE)))
+    Ok((codec::advance(a, SIZE), assign))
 }
 
 impl Header for AccessAssign {
     ghost reader = { read_access_assign };
 
-    fn read(_s: &[u8], _c: Cursor, a: Ahead) -> Result<(AccessAssign, Ahead), Refusal> {
+    fn read(_s: &[u8], _c: Cursor, a: Ahead) -> Result<(Ahead, AccessAssign), Refusal> {
         read_access_assign(a)
     }
 }

@@ -120,7 +120,7 @@ pub fn frame18_into_raw(p: Option<u8>) -> u64
 }
 
 // The monitoring pattern that is ahead, and the frame-18 pattern where it is 0; and what is ahead after them.
-fn read_mon_patterns(a: Ahead) -> Result<(MonPatterns, Ahead), Refusal>
+fn read_mon_patterns(a: Ahead) -> Result<(Ahead, MonPatterns), Refusal>
     requires { Ready a mon_patterns_most }
     ensures { ReadsNext read_mon_patterns a mon_patterns_most result }
 {
@@ -134,7 +134,7 @@ fn read_mon_patterns(a: Ahead) -> Result<(MonPatterns, Ahead), Refusal>
             mon_pattern: pattern as u8,
             frame18_mon_pattern: None,
         };
-        return Ok((alone, b));
+        return Ok((b, alone));
     }
     if b.left < 2 {
         return Err(codec::field_past_end(b.at));
@@ -144,7 +144,7 @@ fn read_mon_patterns(a: Ahead) -> Result<(MonPatterns, Ahead), Refusal>
         mon_pattern: pattern as u8,
         frame18_mon_pattern: Some(v as u8),
     };
-    Ok((both, codec::advance(b, 2)))
+    Ok((codec::advance(b, 2), both))
 }
 
 // The channel allocation whose first 23 bits are the number x, with its patterns.
@@ -165,7 +165,7 @@ fn element_of(x: u64, p: MonPatterns) -> ChanAllocElement
 }
 
 // The channel allocation that is ahead, and what is ahead after it.
-pub fn read_channel_allocation(a: Ahead) -> Result<(ChanAllocElement, Ahead), Refusal>
+pub fn read_channel_allocation(a: Ahead) -> Result<(Ahead, ChanAllocElement), Refusal>
     requires { Ready a channel_allocation_most }
     ensures { ReadsNext read_channel_allocation a channel_allocation_most result }
 {
@@ -179,20 +179,20 @@ pub fn read_channel_allocation(a: Ahead) -> Result<(ChanAllocElement, Ahead), Re
             offset: a.at + EXTENSION_AT,
         });
     }
-    let (patterns, after) = read_mon_patterns(codec::advance(a, HEAD_BITS))?;
+    let (after, patterns) = read_mon_patterns(codec::advance(a, HEAD_BITS))?;
     if x / DIRECTION % 4 == 0 {
         return Err(Refusal {
             number: refusal::AUGMENTED,
             offset: a.at + DIRECTION_AT,
         });
     }
-    Ok((element_of(x, patterns), after))
+    Ok((after, element_of(x, patterns)))
 }
 
 impl Header for ChanAllocElement {
     ghost reader = { read_channel_allocation };
 
-    fn read(_s: &[u8], _c: Cursor, a: Ahead) -> Result<(ChanAllocElement, Ahead), Refusal> {
+    fn read(_s: &[u8], _c: Cursor, a: Ahead) -> Result<(Ahead, ChanAllocElement), Refusal> {
         read_channel_allocation(a)
     }
 }

@@ -15,7 +15,7 @@ pub trait Header: Sized {
     ghost reader: { Reader Self };
 
     // The header of a window whose bits are ahead, and what is ahead after it.
-    fn read(s: &[u8], c: Cursor, a: Ahead) -> Result<(Self, Ahead), Refusal>
+    fn read(s: &[u8], c: Cursor, a: Ahead) -> Result<(Ahead, Self), Refusal>
         requires { Good (length s.now) c × Held (within s.now c) a × Ready a 64 }
         ensures { Reads reader (within s.now c) a.at result };
 }
@@ -34,7 +34,7 @@ pub fn from_bitbuf<T: Header>(s: &[u8], c: Cursor) -> Read<T>
         };
     }
     match T::read(s, c, crate::load(s, c, 0)) {
-        Ok((header, after)) => Read {
+        Ok((after, header)) => Read {
             cursor: crate::moved_by(c, after.at),
             answer: Ok(header),
         },

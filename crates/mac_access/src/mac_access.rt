@@ -97,7 +97,7 @@ pub fn is_frag_start(h: MacAccess) -> bool
 }
 
 // What follows a set option flag, which is ahead; and what is ahead after it.
-fn read_chosen(a: Ahead) -> Result<(MacAccessOption, Ahead), Refusal>
+fn read_chosen(a: Ahead) -> Result<(Ahead, MacAccessOption), Refusal>
     requires { Ready a chosen_size }
     ensures { ReadsNext read_chosen a chosen_size result }
 {
@@ -113,17 +113,17 @@ fn read_chosen(a: Ahead) -> Result<(MacAccessOption, Ahead), Refusal>
     let x = codec::next_bits(a, CHOSEN_BITS);
     let after = codec::advance(a, CHOSEN_BITS);
     if x / SELECTOR % 2 == 0 {
-        return Ok((MacAccessOption::LengthInd((x % 32) as u8), after));
+        return Ok((after, MacAccessOption::LengthInd((x % 32) as u8)));
     }
     let req = reservation_requirement::from_raw(x % 16);
     Ok((
-        MacAccessOption::CapacityRequest(x / FRAGMENT % 2 != 0, req),
         after,
+        MacAccessOption::CapacityRequest(x / FRAGMENT % 2 != 0, req),
     ))
 }
 
 // The option flag that is ahead and what follows it, and what is ahead after them.
-fn read_option(a: Ahead) -> Result<(MacAccessOption, Ahead), Refusal>
+fn read_option(a: Ahead) -> Result<(Ahead, MacAccessOption), Refusal>
     requires { Ready a option_most }
     ensures { ReadsNext read_option a option_most result }
 {
@@ -132,25 +132,25 @@ fn read_option(a: Ahead) -> Result<(MacAccessOption, Ahead), Refusal>
     }
     let after = codec::advance(a, 1);
     if codec::next_bits(a, 1) == 0 {
-        return Ok((MacAccessOption::Without, after));
+        return Ok((after, MacAccessOption::Without));
     }
     read_chosen(after)
 }
 
 // A MAC-ACCESS, which is ahead: one word holds it; and what is ahead after it.
-fn read_mac_access(a: Ahead) -> Result<(MacAccess, Ahead), Refusal>
+fn read_mac_access(a: Ahead) -> Result<(Ahead, MacAccess), Refusal>
     requires { Ready a access_most }
     ensures { ReadsNext read_mac_access a access_most result }
 {
-    let (head, behind) = uplink_head::read_uplink_head(a, TYPE_BITS)?;
-    let (option, after) = read_option(behind)?;
-    Ok((header_of(head, option), after))
+    let (behind, head) = uplink_head::read_uplink_head(a, TYPE_BITS)?;
+    let (after, option) = read_option(behind)?;
+    Ok((after, header_of(head, option)))
 }
 
 impl Header for MacAccess {
     ghost reader = { read_mac_access };
 
-    fn read(_s: &[u8], _c: Cursor, a: Ahead) -> Result<(MacAccess, Ahead), Refusal> {
+    fn read(_s: &[u8], _c: Cursor, a: Ahead) -> Result<(Ahead, MacAccess), Refusal> {
         read_mac_access(a)
     }
 }

@@ -67,7 +67,7 @@ fn header_of(head: UplinkHead, option: MacDataOption) -> MacData
 }
 
 // What follows the address, which is ahead; and what is ahead after it.
-fn read_option(a: Ahead) -> Result<(MacDataOption, Ahead), Refusal>
+fn read_option(a: Ahead) -> Result<(Ahead, MacDataOption), Refusal>
     requires { Ready a option_size }
     ensures { ReadsNext read_option a option_size result }
 {
@@ -84,29 +84,29 @@ fn read_option(a: Ahead) -> Result<(MacDataOption, Ahead), Refusal>
     let x = codec::next_bits(a, OPTION_BITS);
     let after = codec::advance(a, OPTION_BITS);
     if x / SELECTOR % 2 == 0 {
-        return Ok((MacDataOption::LengthInd((x % 64) as u8), after));
+        return Ok((after, MacDataOption::LengthInd((x % 64) as u8)));
     }
     let req = reservation_requirement::from_raw(x / RESERVATION % 16);
     Ok((
-        MacDataOption::CapacityRequest(x / FRAGMENT % 2 != 0, req),
         after,
+        MacDataOption::CapacityRequest(x / FRAGMENT % 2 != 0, req),
     ))
 }
 
 // A MAC-DATA, which is ahead: one word holds it; and what is ahead after it.
-fn read_mac_data(a: Ahead) -> Result<(MacData, Ahead), Refusal>
+fn read_mac_data(a: Ahead) -> Result<(Ahead, MacData), Refusal>
     requires { Ready a data_most }
     ensures { ReadsNext read_mac_data a data_most result }
 {
-    let (head, behind) = uplink_head::read_uplink_head(a, TYPE_BITS)?;
-    let (option, after) = read_option(behind)?;
-    Ok((header_of(head, option), after))
+    let (behind, head) = uplink_head::read_uplink_head(a, TYPE_BITS)?;
+    let (after, option) = read_option(behind)?;
+    Ok((after, header_of(head, option)))
 }
 
 impl Header for MacData {
     ghost reader = { read_mac_data };
 
-    fn read(_s: &[u8], _c: Cursor, a: Ahead) -> Result<(MacData, Ahead), Refusal> {
+    fn read(_s: &[u8], _c: Cursor, a: Ahead) -> Result<(Ahead, MacData), Refusal> {
         read_mac_data(a)
     }
 }

@@ -13,7 +13,7 @@ use codec::{Ahead, piece};
 use tetra_core::refusal::Refusal;
 
 // The channel allocation flag that is ahead, and the element where it is set; and what is ahead after them.
-pub fn read_allocation(a: Ahead) -> Result<(Option<ChanAllocElement>, Ahead), Refusal>
+pub fn read_allocation(a: Ahead) -> Result<(Ahead, Option<ChanAllocElement>), Refusal>
     requires { Ready a allocation_most }
     ensures { ReadsNext read_allocation a allocation_most result }
 {

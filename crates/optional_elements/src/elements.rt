@@ -40,17 +40,17 @@ fn no_elements() -> Elements
 }
 
 // The three flags that are ahead, one by one, each with its element; and what is ahead after them.
-fn read_each(a: Ahead) -> Result<(Elements, Ahead), Refusal>
+fn read_each(a: Ahead) -> Result<(Ahead, Elements), Refusal>
     requires { Ready a elements_most }
     ensures { ReadsNext read_elements a elements_most result }
 {
-    let (power_control_element, behind) = power_control::read_power(a)?;
-    let (grant_and_allocation, after) = grant_and_allocation::read_grant_and_allocation(behind)?;
+    let (behind, power_control_element) = power_control::read_power(a)?;
+    let (after, grant_and_allocation) = grant_and_allocation::read_grant_and_allocation(behind)?;
     let elements = Elements {
         power_control_element,
         grant_and_allocation,
     };
-    Ok((elements, after))
+    Ok((after, elements))
 }
 
 // Whether the three flags that are ahead are there and none of them is set.
@@ -66,12 +66,12 @@ fn no_element(a: Ahead) -> bool
 
 // The elements that are ahead. Most headers have none: then the three flags are one word. The other case is called from here alone, so that
 // the compiler puts it here and no element goes through memory.
-pub fn read_elements(s: &[u8], c: Cursor, a: Ahead) -> Result<(Elements, Ahead), Refusal>
+pub fn read_elements(s: &[u8], c: Cursor, a: Ahead) -> Result<(Ahead, Elements), Refusal>
     requires { Good (length s.now) c × Held (within s.now c) a × Ready a flags_len }
     ensures { Reads read_elements (within s.now c) a.at result }
 {
     if no_element(a) {
-        return Ok((no_elements(), codec::advance(a, FLAGS)));
+        return Ok((codec::advance(a, FLAGS), no_elements()));
     }
     read_each(codec::load(s, c, a.at))
 }

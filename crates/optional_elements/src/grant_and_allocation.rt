@@ -21,17 +21,17 @@ pub struct GrantAndAllocation {
 }
 
 // The two flags that are ahead, each with its element; and what is ahead after them.
-pub fn read_grant_and_allocation(a: Ahead) -> Result<(GrantAndAllocation, Ahead), Refusal>
+pub fn read_grant_and_allocation(a: Ahead) -> Result<(Ahead, GrantAndAllocation), Refusal>
     requires { Ready a grant_and_allocation_most }
     ensures { ReadsNext read_grant_and_allocation a grant_and_allocation_most result }
 {
-    let (slot_granting_element, behind) = slot_granting::read_granting(a)?;
-    let (chan_alloc_element, after) = allocation::read_allocation(behind)?;
+    let (behind, slot_granting_element) = slot_granting::read_granting(a)?;
+    let (after, chan_alloc_element) = allocation::read_allocation(behind)?;
     let elements = GrantAndAllocation {
         slot_granting_element,
         chan_alloc_element,
     };
-    Ok((elements, after))
+    Ok((after, elements))
 }
 
 // Why they are not written, or 0.

@@ -8,10 +8,10 @@ use codec::Ahead;
 use tetra_core::refusal::Refusal;
 
 // The flag that is ahead, and where it is set the element behind it, as read takes it; and what is ahead after them.
-pub fn read_optional<T, F: FnOnce(Ahead) -> Result<(T, Ahead), Refusal>>(
+pub fn read_optional<T, F: FnOnce(Ahead) -> Result<(Ahead, T), Refusal>>(
     a: Ahead,
     read: F,
-) -> Result<(Option<T>, Ahead), Refusal>
+) -> Result<(Ahead, Option<T>), Refusal>
     requires { Ready a 1 × (1 ≤ a.left → F.pre read (advanced a 1)) }
     ensures { (p : Reader T) (n : ℕ) → ((r : _) → F.post read (advanced a 1) r → ReadsNext p (advanced a 1) n r) → ReadsNext (optional p) a (1 + n) result }
 {
@@ -20,8 +20,8 @@ pub fn read_optional<T, F: FnOnce(Ahead) -> Result<(T, Ahead), Refusal>>(
     }
     let b = codec::advance(a, 1);
     if codec::next_bits(a, 1) == 0 {
-        return Ok((None, b));
+        return Ok((b, None));
     }
-    let (element, after) = read(b)?;
-    Ok((Some(element), after))
+    let (after, element) = read(b)?;
+    Ok((after, Some(element)))
 }

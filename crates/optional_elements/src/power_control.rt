@@ -19,7 +19,7 @@ const POWER_BITS: usize = 1 + LEVEL_BITS;
 const FLAG: u64 = 1 << 4;
 
 // The level that is ahead, and what is ahead after it.
-fn read_level(a: Ahead) -> Result<(u8, Ahead), Refusal>
+fn read_level(a: Ahead) -> Result<(Ahead, u8), Refusal>
     requires { Ready a level_len }
     ensures { ReadsNext read_level a level_len result }
 {
@@ -27,11 +27,11 @@ fn read_level(a: Ahead) -> Result<(u8, Ahead), Refusal>
         return Err(codec::field_past_end(a.at));
     }
     let level = codec::next_bits(a, LEVEL_BITS);
-    Ok((level as u8, codec::advance(a, LEVEL_BITS)))
+    Ok((codec::advance(a, LEVEL_BITS), level as u8))
 }
 
 // The power control flag that is ahead, and the level where it is set; and what is ahead after them.
-pub fn read_power(a: Ahead) -> Result<(Option<u8>, Ahead), Refusal>
+pub fn read_power(a: Ahead) -> Result<(Ahead, Option<u8>), Refusal>
     requires { Ready a power_most }
     ensures { ReadsNext read_power a power_most result }
 {

@@ -20,7 +20,7 @@ const GRANTING_BITS: usize = 1 + GRANT_BITS;
 const FLAG: u64 = 1 << 8;
 
 // The slot granting flag that is ahead, and the element where it is set; and what is ahead after them.
-pub fn read_granting(a: Ahead) -> Result<(Option<BasicSlotgrant>, Ahead), Refusal>
+pub fn read_granting(a: Ahead) -> Result<(Ahead, Option<BasicSlotgrant>), Refusal>
     requires { Ready a granting_most }
     ensures { ReadsNext read_granting a granting_most result }
 {

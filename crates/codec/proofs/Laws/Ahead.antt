@@ -99,13 +99,13 @@ onward_then {m = m} {n} k x y l = record {
 }
 
 -- what the function of a part that is ahead at the offset o answered, as the part's outcome
-pub next-read : {A : Type 0} {p : Reader A} {h : List Bool} {a : Ahead} {n o : ℕ} {x r : Result (A × Ahead) Refusal}
+pub next-read : {A : Type 0} {p : Reader A} {h : List Bool} {a : Ahead} {n o : ℕ} {x r : Result (Ahead × A) Refusal}
     → ReadsNext p a n x → Held h a → a.at ≡ o → x ≡ r → parse p (drop o h) o ≡ part_out r h
 next-read {p = p} {h} f e z g = ap (λ (o : ℕ). parse p (drop o h) o) (sym z) ∙ read (f.of h e) g
 
 -- a header that was read ends inside its window
-pub read-ends : {A : Type 0} {p : Reader A} {o : ℕ} {x : Result (A × Ahead) Refusal} {v : A} {b : Ahead} (s : List ℕ) (c : Cursor) → Good (length s) c
-    → Reads p (within s c) o x → o ≡ 0 → x ≡ Ok (v, b) → c.pos + b.at ≤ c.end
+pub read-ends : {A : Type 0} {p : Reader A} {o : ℕ} {x : Result (Ahead × A) Refusal} {v : A} {b : Ahead} (s : List ℕ) (c : Cursor) → Good (length s) c
+    → Reads p (within s c) o x → o ≡ 0 → x ≡ Ok (b, v) → c.pos + b.at ≤ c.end
 read-ends {p = p} s c g f z e = ends p s c g (rw z at (read f e))
 
 -- what is ahead is so of some header
@@ -146,16 +146,16 @@ somewhere a = record { header = all; held = record { bits = sym (ap length behin
         }
 
 -- so what was read of it was there, with no header at hand
-pub read-there : {A : Type 0} {p : Reader A} {a b : Ahead} {x : Result (A × Ahead) Refusal} {v : A} (n : ℕ) → ReadsNext p a n x
-    → x ≡ Ok (v, b) → (a.at ≤ b.at) × (b.at ≤ a.at + a.left)
+pub read-there : {A : Type 0} {p : Reader A} {a b : Ahead} {x : Result (Ahead × A) Refusal} {v : A} (n : ℕ) → ReadsNext p a n x
+    → x ≡ Ok (b, v) → (a.at ≤ b.at) × (b.at ≤ a.at + a.left)
 read-there {p = p} {a} n f e =
     let s = somewhere a in
     let i = rw (read (f.of s.header s.held) e) at (inside p (drop a.at s.header) a.at) in
     (i.0, omega (arith, s.held.bits, i.1))
 
 -- where a part was read, what is ahead after it
-pub on-from : {A : Type 0} {p : Reader A} {a b : Ahead} {n : ℕ} {x : Result (A × Ahead) Refusal} {v : A} → ReadsNext p a n x → x ≡ Ok (v, b) → Onward a n b
-on-from {a = a} {n = n} f e = IfOk-at_ok (λ x. Onward a n x.1) e f.onward
+pub on-from : {A : Type 0} {p : Reader A} {a b : Ahead} {n : ℕ} {x : Result (Ahead × A) Refusal} {v : A} → ReadsNext p a n x → x ≡ Ok (b, v) → Onward a n b
+on-from {a = a} {n = n} f e = IfOk-at_ok (λ x. Onward a n x.0) e f.onward
 
 -- too few bits are left for the fields that a reader starts with, and for one field
 pub ahead_short : {A : Type 0} {h : List Bool} {a : Ahead} (p : Reader A) (ws : List ℕ) → Starts ws p → Held h a → a.left < total ws

@@ -59,9 +59,9 @@ pub alone : {h : List Bool} {o n x : ℕ} → Word h o n x → field_at n (drop 
 alone {h} {o} {n} {x} e = rw e.bits (field-alone n x (drop (o + n) h) o e.small)
 
 -- what a part of a header is read as by a function
-pub read : {A : Type 0} {p : Reader A} {h : List Bool} {o : ℕ} {x r : Result (A × Ahead) Refusal}
+pub read : {A : Type 0} {p : Reader A} {h : List Bool} {o : ℕ} {x r : Result (Ahead × A) Refusal}
     → Reads p h o x → x ≡ r → parse p (drop o h) o ≡ part_out r h
-read {A} {h = h} p e = sym p.means ∙ ap (λ (r : Result (A × Ahead) Refusal). part_out r h) e
+read {A} {h = h} p e = sym p.means ∙ ap (λ (r : Result (Ahead × A) Refusal). part_out r h) e
 
 -- ---- a public call, whose first line is `if !good_window(..)` with the answer t
 

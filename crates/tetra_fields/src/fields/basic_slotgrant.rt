@@ -31,7 +31,7 @@ pub struct BasicSlotgrant {
 }
 
 // The slot grant that is ahead, and what is ahead after it.
-pub fn read_slotgrant(a: Ahead) -> Result<(BasicSlotgrant, Ahead), Refusal>
+pub fn read_slotgrant(a: Ahead) -> Result<(Ahead, BasicSlotgrant), Refusal>
     requires { Ready a slotgrant_size }
     ensures { ReadsNext read_slotgrant a slotgrant_size result }
 {
@@ -43,13 +43,13 @@ pub fn read_slotgrant(a: Ahead) -> Result<(BasicSlotgrant, Ahead), Refusal>
         capacity_allocation: cap_alloc::from_raw(x / CAPACITY % 16),
         granting_delay: granting_delay::from_raw(x % 16),
     };
-    Ok((grant, codec::advance(a, SIZE)))
+    Ok((codec::advance(a, SIZE), grant))
 }
 
 impl Header for BasicSlotgrant {
     ghost reader = { read_slotgrant };
 
-    fn read(_s: &[u8], _c: Cursor, a: Ahead) -> Result<(BasicSlotgrant, Ahead), Refusal> {
+    fn read(_s: &[u8], _c: Cursor, a: Ahead) -> Result<(Ahead, BasicSlotgrant), Refusal> {
         read_slotgrant(a)
     }
 }

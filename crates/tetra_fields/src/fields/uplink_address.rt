@@ -41,7 +41,7 @@ fn uplink_of(kind: u64, v: u64) -> UplinkAddress
 }
 
 // The address of this type that is ahead, and what is ahead after it.
-pub(crate) fn read_uplink_address(a: Ahead, kind: u64) -> Result<(UplinkAddress, Ahead), Refusal>
+pub(crate) fn read_uplink_address(a: Ahead, kind: u64) -> Result<(Ahead, UplinkAddress), Refusal>
     requires { Ready a uplink_most }
     ensures { ReadsNext (read_uplink_address kind) a uplink_most result }
 {
@@ -50,7 +50,7 @@ pub(crate) fn read_uplink_address(a: Ahead, kind: u64) -> Result<(UplinkAddress,
         return Err(codec::field_past_end(a.at));
     }
     let v = codec::next_bits(a, n);
-    Ok((uplink_of(kind, v), codec::advance(a, n)))
+    Ok((codec::advance(a, n), uplink_of(kind, v)))
 }
 
 // The number of an address.

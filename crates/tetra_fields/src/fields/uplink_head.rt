@@ -55,7 +55,7 @@ fn wrong_type(a: Ahead) -> Refusal
 }
 
 // The head that is ahead of a header whose PDU type has w bits, and what is ahead after it.
-pub fn read_uplink_head(a: Ahead, w: usize) -> Result<(UplinkHead, Ahead), Refusal>
+pub fn read_uplink_head(a: Ahead, w: usize) -> Result<(Ahead, UplinkHead), Refusal>
     requires { Ready a head_most × (1 ≤ w) × (w ≤ 2) }
     ensures { ReadsNext (read_uplink_head w) a head_most result }
 {
@@ -67,13 +67,13 @@ pub fn read_uplink_head(a: Ahead, w: usize) -> Result<(UplinkHead, Ahead), Refus
     if x / TYPE != 0 {
         return Err(wrong_type(a));
     }
-    let (addr, after) = uplink_address::read_uplink_address(codec::advance(a, n), x % 4)?;
+    let (after, addr) = uplink_address::read_uplink_address(codec::advance(a, n), x % 4)?;
     let head = UplinkHead {
         fill_bits: x / FILL % 2 != 0,
         encrypted: x / ENCRYPTED % 2 != 0,
         addr,
     };
-    Ok((head, after))
+    Ok((after, head))
 }
 
 // The bits of a head whose PDU type has w bits.

@@ -40,7 +40,7 @@ read_mon_patterns-requires c =
     rw c.advance.ensures (ready_on 23 4 c.requires (omega arith) c.if-a-lt-HEAD_BITS.false)
 
 -- it is read up to its patterns, which the answer r is of
-to_patterns : (c : After-read_mon_patterns) {r : Result (MonPatterns × Ahead) Refusal} (h : List Bool) → Held h c.args.a → c.read_mon_patterns.result ≡ r
+to_patterns : (c : After-read_mon_patterns) {r : Result (Ahead × MonPatterns) Refusal} (h : List Bool) → Held h c.args.a → c.read_mon_patterns.result ≡ r
     → let a = c.args.a in let x = c.next_bits-x.result in
     parse read_channel_allocation (drop a.at h) a.at
     ≡ next (part_out r h) (λ p. parse (choose (eqb (x / 2 ^ 15 % 4) 0) (refuse 6 (a.at + 6)) (done (element_of x p))))
@@ -54,18 +54,18 @@ to_patterns c h e was =
       read ((rw c.advance.ensures at c.read_mon_patterns.ensures).of h (held_on 23 e l)) was,
     )
 
-pub returns-in_err-patterns : goal.returns-in_err-patterns
-returns-in_err-patterns c =
+pub returns-in_err-after : goal.returns-in_err-after
+returns-in_err-after c =
     let p = err_from_is_err_and c.from_residual.result c.from_residual.ensures.1 in
     rw (p.1, p.2) (record {
-      of = λ h e. record { means = rw (to_patterns (goal.at.returns-in_err-patterns c).After-read_mon_patterns h e c.in_err-patterns.was) };
+      of = λ h e. record { means = rw (to_patterns (goal.at.returns-in_err-after c).After-read_mon_patterns h e c.in_err-after.was) };
       onward = tt;
     })
 
 pub returns-then-x-eq0 : goal.returns-then-x-eq0
 returns-then-x-eq0 c = record {
   of = λ h e. record {
-    means = rw (to_patterns (goal.at.returns-then-x-eq0 c).After-read_mon_patterns h e c.in_ok-patterns.was, eq-eqb _ _ c.if-x-eq0.true);
+    means = rw (to_patterns (goal.at.returns-then-x-eq0 c).After-read_mon_patterns h e c.in_ok-after.was, eq-eqb _ _ c.if-x-eq0.true);
   };
   onward = tt;
 }
@@ -74,9 +74,9 @@ pub returns : goal.returns
 returns c =
     record {
       of = λ h e. record {
-        means = rw (to_patterns (goal.at.returns c).After-read_mon_patterns h e c.in_ok-patterns.was, ne_eqb _ _ c.if-x-eq0.false, c.element_of.ensures);
+        means = rw (to_patterns (goal.at.returns c).After-read_mon_patterns h e c.in_ok-after.was, ne_eqb _ _ c.if-x-eq0.false, c.element_of.ensures);
       };
       onward =
           onward_then {m = 23} 27 (rw c.advance.ensures (onward 23 23 (omega arith) c.if-a-lt-HEAD_BITS.false))
-          (on-from c.read_mon_patterns.ensures c.in_ok-patterns.was) (omega arith);
+          (on-from c.read_mon_patterns.ensures c.in_ok-after.was) (omega arith);
     }

@@ -5,28 +5,28 @@ use Rattle.codec.proofs.Laws.Ahead.{onward_then, next-read, on-from}
 use Rattle.mac_access.specs.MacAccess.{access_most, option_most, read_mac_access}
 use Rattle.mac_access.proofs.mac_access.read_mac_access.Goals as goal
 
-pub returns-in_err-head : goal.returns-in_err-head
+pub returns-in_err-behind : goal.returns-in_err-behind
 unfolding read_mac_access
-returns-in_err-head c =
+returns-in_err-behind c =
     let p = err_from_is_err_and c.from_residual.result c.from_residual.ensures.1 in
-    rw (p.1, p.2) (record { of = λ h e. record { means = rw (parse_bind, next-read c.read_uplink_head.ensures e refl c.in_err-head.was) }; onward = tt })
+    rw (p.1, p.2) (record { of = λ h e. record { means = rw (parse_bind, next-read c.read_uplink_head.ensures e refl c.in_err-behind.was) }; onward = tt })
 
 pub read_option-requires : goal.read_option-requires
 read_option-requires c =
-    (on-from c.read_uplink_head.ensures c.in_ok-head.was).ready option_most c.requires
+    (on-from c.read_uplink_head.ensures c.in_ok-behind.was).ready option_most c.requires
 
-pub returns-in_err-option : goal.returns-in_err-option
+pub returns-in_err-after : goal.returns-in_err-after
 unfolding read_mac_access
-returns-in_err-option c =
+returns-in_err-after c =
     let f = c.read_uplink_head.ensures in
-    let p = err_from_is_err_and c.from_residual-in_err-option.result c.from_residual-in_err-option.ensures.1 in
+    let p = err_from_is_err_and c.from_residual-in_err-after.result c.from_residual-in_err-after.ensures.1 in
     rw (p.1, p.2) (record {
       of = λ h e. record {
         means = rw (
           parse_bind,
-          next-read f e refl c.in_ok-head.was,
+          next-read f e refl c.in_ok-behind.was,
           parse_bind,
-          next-read c.read_option.ensures ((on-from f c.in_ok-head.was).held h e) refl c.in_err-option.was,
+          next-read c.read_option.ensures ((on-from f c.in_ok-behind.was).held h e) refl c.in_err-after.was,
         );
       };
       onward = tt;
@@ -36,16 +36,16 @@ pub returns : goal.returns
 unfolding read_mac_access
 returns c =
     let f = c.read_uplink_head.ensures in
-    let b = on-from f c.in_ok-head.was in
+    let b = on-from f c.in_ok-behind.was in
     record {
       of = λ h e. record {
         means = rw (
           parse_bind,
-          next-read f e refl c.in_ok-head.was,
+          next-read f e refl c.in_ok-behind.was,
           parse_bind,
-          next-read c.read_option.ensures (b.held h e) refl c.in_ok-option.was,
+          next-read c.read_option.ensures (b.held h e) refl c.in_ok-after.was,
           c.header_of.ensures,
         );
       };
-      onward = onward_then access_most b (on-from c.read_option.ensures c.in_ok-option.was) (lit≤ tt);
+      onward = onward_then access_most b (on-from c.read_option.ensures c.in_ok-after.was) (lit≤ tt);
     }

@@ -30,5 +30,5 @@ returns c =
     let f = rw c.advance-after.ensures at c.read_chosen.ensures in
     record {
       of = λ h e. record { means = rw (alone (c.next_bits.ensures.word h e i), ne_eqb _ _ c.if-next_bits-eq0.false) (f.of h (held_on 1 e i)).means };
-      onward = IfOk-weaker c.read_chosen.result _ (λ x. Onward c.args.a option_most x.1) (λ x z. onward_then option_most (onward 1 1 (lit≤ tt) i) z (lit≤ tt)) f.onward;
+      onward = IfOk-weaker c.read_chosen.result _ (λ x. Onward c.args.a option_most x.0) (λ x z. onward_then option_most (onward 1 1 (lit≤ tt) i) z (lit≤ tt)) f.onward;
     }

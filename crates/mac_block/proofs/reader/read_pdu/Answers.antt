@@ -18,7 +18,7 @@ use Rattle.mac_block.proofs.reader.read_pdu.Goals.{After-read_mac_resource}
 use Rattle.mac_block.proofs.reader.read_pdu.Goals as goal
 
 -- the header, read from the PDU's bits
-header : (c : After-read_mac_resource) {r : Result (MacResource × Ahead) Refusal} → c.read_mac_resource.result ≡ r
+header : (c : After-read_mac_resource) {r : Result (Ahead × MacResource) Refusal} → c.read_mac_resource.result ≡ r
     → let a = c.args in
     parse read_mac_resource (bits_at a.block.now a.bit a.size) 0 ≡ part_out r (bits_at a.block.now a.bit a.size)
 header c e =

@@ -20,8 +20,8 @@ returns-then-next_bits-eq0 g c p n f =
       onward = rw c.advance-b.ensures (onward 1 (1 + n) (omega arith) l);
     }
 
-pub returns-in_err-element : goal.returns-in_err-element
-returns-in_err-element g c p n f =
+pub returns-in_err-after : goal.returns-in_err-after
+returns-in_err-after g c p n f =
     let l = c.if-a-lt1.false in
     let d = err_from_is_err_and c.from_residual.result c.from_residual.ensures.1 in
     let x = f _ (rw c.advance-b.ensures at c.read.ensures) in
@@ -29,7 +29,7 @@ returns-in_err-element g c p n f =
       of = λ h e. record {
         means = rw (
           optional-set p (c.next_bits.ensures.word h e l) c.if-next_bits-eq0.false,
-          read (x.of h (held_on 1 e l)) c.in_err-element.was,
+          read (x.of h (held_on 1 e l)) c.in_err-after.was,
         );
       };
       onward = tt;
@@ -43,8 +43,8 @@ returns g c p n f =
       of = λ h e. record {
         means = rw (
           optional-set p (c.next_bits.ensures.word h e l) c.if-next_bits-eq0.false,
-          read (x.of h (held_on 1 e l)) c.in_ok-element.was,
+          read (x.of h (held_on 1 e l)) c.in_ok-after.was,
         );
       };
-      onward = onward_then {m = 1} (1 + n) (onward 1 1 (omega arith) l) (on-from x c.in_ok-element.was) (omega arith);
+      onward = onward_then {m = 1} (1 + n) (onward 1 1 (omega arith) l) (on-from x c.in_ok-after.was) (omega arith);
     }

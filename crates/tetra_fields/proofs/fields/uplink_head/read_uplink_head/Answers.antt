@@ -39,7 +39,7 @@ abbrev head : ℕ → UplinkAddress → UplinkHead
 head x addr = record { fill_bits = flag (x / 8 % 2); encrypted = flag (x / 4 % 2); addr = addr }
 
 -- it is read up to its address, which the answer r is of
-to_address : (c : After-read_uplink_address) {r : Result (UplinkAddress × Ahead) Refusal} (h : List Bool) → Held h c.args.a → c.read_uplink_address.result ≡ r
+to_address : (c : After-read_uplink_address) {r : Result (Ahead × UplinkAddress) Refusal} (h : List Bool) → Held h c.args.a → c.read_uplink_address.result ≡ r
     → parse (read_uplink_head c.args.w) (drop c.args.a.at h) c.args.a.at ≡ next (part_out r h) (λ addr. parse (done (head c.next_bits-x.result addr)))
 unfolding read_uplink_head read_uplink_body
 to_address c h e was =
@@ -53,15 +53,15 @@ to_address c h e was =
       next-read {h = h} c.read_uplink_address.ensures (rw c.advance.ensures (held_on _ e c.if-a-n.false)) at was,
     )
 
-pub returns-in_err-addr : goal.returns-in_err-addr
-returns-in_err-addr c =
+pub returns-in_err-after : goal.returns-in_err-after
+returns-in_err-after c =
     let p = err_from_is_err_and c.from_residual.result c.from_residual.ensures.1 in
-    rw (p.1, p.2) (record { of = λ h e. record { means = rw (to_address (goal.at.returns-in_err-addr c).After-read_uplink_address h e c.in_err-addr.was) }; onward = tt })
+    rw (p.1, p.2) (record { of = λ h e. record { means = rw (to_address (goal.at.returns-in_err-after c).After-read_uplink_address h e c.in_err-after.was) }; onward = tt })
 
 pub returns : goal.returns
 returns c = record {
-  of = λ h e. record { means = rw (to_address (goal.at.returns c).After-read_uplink_address h e c.in_ok-addr.was) };
+  of = λ h e. record { means = rw (to_address (goal.at.returns c).After-read_uplink_address h e c.in_ok-after.was) };
   onward =
       onward_then {m = 6} 30 (rw c.advance.ensures (onward (c.args.w + 4) 6 (omega arith) c.if-a-n.false))
-      (on-from c.read_uplink_address.ensures c.in_ok-addr.was) (lit≤ tt);
+      (on-from c.read_uplink_address.ensures c.in_ok-after.was) (lit≤ tt);
 }
