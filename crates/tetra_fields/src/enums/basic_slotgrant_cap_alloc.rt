@@ -2,10 +2,10 @@
 ghost use Rattle.std.specs.Prelude.{◌≡◌, ◌<◌};
 ghost use Rattle.tetra_fields.specs.BasicSlotgrant.{cap_alloc_number, cap_alloc_of, cap_alloc_case, granted_slots, cap_alloc_for};
 
+use crate::enums::reservation_requirement;
+use crate::enums::reservation_requirement::{ReqSlotcount, ReservationRequirement};
 use codec::cases;
 use codec::cases::NoCase;
-use crate::enums::reservation_requirement;
-use crate::enums::reservation_requirement::ReqSlotcount;
 
 #[derive(Clone, Copy)]
 pub enum BasicSlotgrantCapAlloc {
@@ -37,6 +37,7 @@ pub enum GrantedSlots {
 
 impl BasicSlotgrantCapAlloc {
     // The case of a field's bits, the low 4 of v.
+    #[tactic(auto, unfolding(crate::specs::BasicSlotgrant::cap_alloc_of))]
     pub fn from_raw(v: u64) -> BasicSlotgrantCapAlloc
         ensures { result ≡ cap_alloc_of v }
     {
@@ -116,13 +117,13 @@ pub fn from_req_slotcount(req: usize) -> Option<BasicSlotgrantCapAlloc>
         return None;
     }
     let asked = reservation_requirement::from_req_slotcount(req);
-    Some(from_raw(reservation_requirement::into_raw(asked)))
+    Some(BasicSlotgrantCapAlloc::from_raw(asked.into_raw()))
 }
 
 pub fn to_req_slotcount(a: BasicSlotgrantCapAlloc) -> GrantedSlots
     ensures { result ≡ granted_slots a }
 {
-    let asked = reservation_requirement::from_raw(into_raw(a));
+    let asked = ReservationRequirement::from_raw(a.into_raw());
     match reservation_requirement::to_req_slotcount(asked) {
         ReqSlotcount::Subslot => GrantedSlots::FirstSubslot,
         ReqSlotcount::Slots(n) => GrantedSlots::Slots(n),

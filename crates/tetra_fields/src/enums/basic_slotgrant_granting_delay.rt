@@ -16,6 +16,7 @@ pub enum BasicSlotgrantGrantingDelay {
 
 impl BasicSlotgrantGrantingDelay {
     // The case of a field's bits, the low 4 of v.
+    #[tactic(auto, unfolding(crate::specs::BasicSlotgrant::delay_of))]
     pub fn from_raw(v: u64) -> BasicSlotgrantGrantingDelay
         ensures { result ≡ delay_of v }
     {

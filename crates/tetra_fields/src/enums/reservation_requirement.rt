@@ -35,6 +35,7 @@ pub enum ReqSlotcount {
 
 impl ReservationRequirement {
     // The case of a field's bits, the low 4 of v.
+    #[tactic(auto, unfolding(crate::specs::ReservationRequirement::reservation_of))]
     pub fn from_raw(v: u64) -> ReservationRequirement
         ensures { result ≡ reservation_of v }
     {
