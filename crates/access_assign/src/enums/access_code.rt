@@ -15,6 +15,7 @@ pub enum AccessCode {
 
 impl AccessCode {
     // The case of a field's bits, the low 2 of v.
+    #[tactic(auto, unfolding(crate::specs::AccessField::access_code_of))]
     pub fn from_raw(v: u64) -> AccessCode
         ensures { result ≡ access_code_of v }
     {

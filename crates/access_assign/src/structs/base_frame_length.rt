@@ -31,6 +31,7 @@ pub enum BaseFrameLength {
 
 impl BaseFrameLength {
     // The case of a field's bits, the low 4 of v.
+    #[tactic(auto, unfolding(crate::specs::AccessField::base_frame_length_of))]
     pub fn from_raw(v: u64) -> BaseFrameLength
         ensures { result ≡ base_frame_length_of v }
     {

@@ -15,6 +15,7 @@ pub enum ChanAllocType {
 
 impl ChanAllocType {
     // The case of a field's bits, the low 2 of v.
+    #[tactic(auto, unfolding(crate::specs::ChannelAllocation::alloc_type_of))]
     pub fn from_raw(v: u64) -> ChanAllocType
         ensures { result ≡ alloc_type_of v }
     {

@@ -15,6 +15,7 @@ pub enum UlDlAssignment {
 
 impl UlDlAssignment {
     // The case of a field's bits, the low 2 of v.
+    #[tactic(auto, unfolding(crate::specs::ChannelAllocation::ul_dl_of))]
     pub fn from_raw(v: u64) -> UlDlAssignment
         ensures { result ≡ ul_dl_of v }
     {

@@ -104,6 +104,7 @@ impl From<ReservationRequirement> for u64 {
 }
 
 // The least case that is enough for req slots, 0 for one subslot.
+#[tactic(auto, unfolding(crate::specs::ReservationRequirement::reservation_for))]
 pub fn from_req_slotcount(req: usize) -> ReservationRequirement
     ensures { result ≡ reservation_for req }
 {

@@ -1,7 +1,7 @@
 use native.Mathlib.Omega.{arith}
 use borrow.Author.Tests.{ne_eqb, le-leb, lt-leb}
 use Rattle.access_assign.specs.Usage.{ul_usage_of, ul_usage}
-use Rattle.access_assign.proofs.enums.access_assign_ul_usage.from_usage_marker.Goals as goal
+use Rattle.access_assign.proofs.enums.access_assign_ul_usage.AccessAssignUlUsage.from_usage_marker.Goals as goal
 
 pub returns-then-field-eq0 : goal.returns-then-field-eq0
 unfolding ul_usage_of ul_usage

@@ -1,6 +1,6 @@
 use Rattle.codec.proofs.Laws.Cases.{last_case}
 use Rattle.access_assign.specs.Usage.{dl_names, dl_usage_of}
-use Rattle.access_assign.proofs.enums.access_assign_dl_usage.from_usage_marker.Goals as goal
+use Rattle.access_assign.proofs.enums.access_assign_dl_usage.AccessAssignDlUsage.from_usage_marker.Goals as goal
 
 pub returns-in-0 : goal.returns-in-0
 unfolding dl_usage_of
