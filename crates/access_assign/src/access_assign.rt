@@ -94,6 +94,7 @@ pub fn dl_is_traffic(a: AccessAssign) -> bool
 }
 
 // What the three fields of an ACCESS-ASSIGN say, of which field two begins at the offset second.
+#[tactic(auto, unfolding(crate::specs::AccessAssign::access_assign_of))]
 fn access_assign_of(header: u64, one: u64, two: u64, second: usize) -> Result<AccessAssign, Refusal>
     requires { (one < 64) × (two < 64) }
     ensures { Says header one two second result }

@@ -3,20 +3,17 @@
 use crate::answers::{Stop, Tell, Words};
 use crate::calls::UnknownCall;
 use crate::given::Given;
-use access_assign::enums::access_code;
 use access_assign::enums::access_code::AccessCode;
 use access_assign::structs::access_field::AccessField;
 use access_assign::structs::base_frame_length::BaseFrameLength;
-use access_assign::structs::{access_field, base_frame_length};
-use mac_resource::enums::mac_resource_addr_type as addr_type;
 use mac_resource::enums::mac_resource_addr_type::MacResourceAddrType;
 use tetra_fields::enums::basic_slotgrant_cap_alloc::{BasicSlotgrantCapAlloc, GrantedSlots};
 use tetra_fields::enums::basic_slotgrant_granting_delay::BasicSlotgrantGrantingDelay;
 use tetra_fields::enums::reservation_requirement::{ReqSlotcount, ReservationRequirement};
 use tetra_fields::enums::{
-    basic_slotgrant_cap_alloc as cap_alloc, basic_slotgrant_granting_delay as delay,
-    reservation_requirement as reservation,
+    basic_slotgrant_cap_alloc as cap_alloc, reservation_requirement as reservation,
 };
+use codec::cases::NoCase;
 
 #[derive(Clone, Copy)]
 pub enum CodeCall {
@@ -89,7 +86,7 @@ impl Coded for BasicSlotgrantCapAlloc {
     }
 
     fn code(self) -> u64 {
-        cap_alloc::into_raw(self)
+        self.into_raw()
     }
 }
 
@@ -104,7 +101,7 @@ impl Coded for BasicSlotgrantGrantingDelay {
     }
 
     fn code(self) -> u64 {
-        delay::into_raw(self)
+        self.into_raw()
     }
 }
 
@@ -119,7 +116,7 @@ impl Coded for ReservationRequirement {
     }
 
     fn code(self) -> u64 {
-        reservation::into_raw(self)
+        self.into_raw()
     }
 }
 
@@ -134,7 +131,7 @@ impl Coded for AccessCode {
     }
 
     fn code(self) -> u64 {
-        access_code::into_raw(self)
+        self.into_raw()
     }
 }
 
@@ -161,7 +158,7 @@ impl Coded for BaseFrameLength {
     }
 
     fn code(self) -> u64 {
-        base_frame_length::into_raw(self)
+        self.into_raw()
     }
 }
 
@@ -180,7 +177,7 @@ impl Coded for MacResourceAddrType {
     }
 
     fn code(self) -> u64 {
-        addr_type::into_raw(self)
+        self.into_raw()
     }
 }
 
@@ -196,7 +193,7 @@ fn field(f: AccessField) -> [u64; 3] {
     [
         access_code.place(),
         length.place(),
-        access_field::into_raw(f),
+        f.into_raw(),
     ]
 }
 
@@ -230,20 +227,20 @@ impl CodeCall {
         let v = given.number(0);
         let req = given.count(0);
         match self {
-            CodeCall::Capacity => case(cap_alloc::try_from(v), out),
-            CodeCall::GrantingDelay => case(delay::try_from(v), out),
+            CodeCall::Capacity => case(BasicSlotgrantCapAlloc::try_from(v), out),
+            CodeCall::GrantingDelay => case(BasicSlotgrantGrantingDelay::try_from(v), out),
             CodeCall::DelayCount => {
                 let d = BasicSlotgrantGrantingDelay::DelayNOpportunities(given.octet(0));
                 [d.code()].tell(out)
             }
-            CodeCall::Reservation => case(reservation::try_from(v), out),
+            CodeCall::Reservation => case(ReservationRequirement::try_from(v), out),
             CodeCall::ReservationFor => case(Some(reservation::from_req_slotcount(req)), out),
-            CodeCall::AccessCode => case(access_code::try_from(v), out),
-            CodeCall::BaseFrameLength => case(base_frame_length::try_from(v), out),
-            CodeCall::AccessField => field(access_field::from_raw(v)).tell(out),
-            CodeCall::AddressType => case(addr_type::try_from(v), out),
+            CodeCall::AccessCode => case(AccessCode::try_from(v), out),
+            CodeCall::BaseFrameLength => case(BaseFrameLength::try_from(v), out),
+            CodeCall::AccessField => field(AccessField::from_raw(v)).tell(out),
+            CodeCall::AddressType => case(MacResourceAddrType::try_from(v), out),
             CodeCall::CapacityFor => case(cap_alloc::from_req_slotcount(req), out),
-            CodeCall::Granted => [granted(cap_alloc::from_raw(v))].tell(out),
+            CodeCall::Granted => [granted(BasicSlotgrantCapAlloc::from_raw(v))].tell(out),
         }
     }
 }

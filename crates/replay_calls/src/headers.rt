@@ -50,7 +50,7 @@ impl TryFrom<u64> for HeaderCall {
 
 // An ACCESS-ASSIGN of a header with a downlink usage, where it has one.
 fn assign_of(header: u64, downlink_usage_marker: AccessAssignDlUsage) -> AccessAssign {
-    let access_field = access_field::from_raw(0);
+    let access_field = AccessField::from_raw(0);
     match header {
         0 => assign::default_access_assign(),
         1 => AccessAssign::DownlinkDefinedUplinkCommonAndAssigned {
@@ -75,8 +75,8 @@ fn access_fields(a: AccessAssign) -> Result<[u64; 2], Stop> {
             access_field_1,
             access_field_2,
         } => Ok([
-            access_field::into_raw(access_field_1),
-            access_field::into_raw(access_field_2),
+            access_field_1.into_raw(),
+            access_field_2.into_raw(),
         ]),
         _ => Err(Stop::Malformed),
     }
@@ -88,7 +88,7 @@ fn access_of(given: Given<'_>) -> MacAccess {
         0 => MacAccessOption::Without,
         1 => MacAccessOption::LengthInd(given.octet(1)),
         _ => {
-            let requirement = reservation::from_raw(given.number(2));
+            let requirement = ReservationRequirement::from_raw(given.number(2));
             MacAccessOption::CapacityRequest(given.number(1) == 1, requirement)
         }
     };

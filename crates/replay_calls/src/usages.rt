@@ -4,9 +4,6 @@ use crate::calls::UnknownCall;
 use crate::given::Given;
 use access_assign::enums::access_assign_dl_usage::AccessAssignDlUsage;
 use access_assign::enums::access_assign_ul_usage::AccessAssignUlUsage;
-use access_assign::enums::{
-    access_assign_dl_usage as dl_usage, access_assign_ul_usage as ul_usage,
-};
 
 // What is asked of a usage, by the numbers 96 to 99 in the downlink, and 100 to 103 in the uplink.
 #[derive(Clone, Copy)]

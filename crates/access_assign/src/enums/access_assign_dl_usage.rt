@@ -16,6 +16,7 @@ pub enum AccessAssignDlUsage {
 
 impl AccessAssignDlUsage {
     // The usage of a marker.
+    #[tactic(auto, unfolding(crate::specs::Usage::dl_usage_of))]
     pub fn from_usage_marker(field: u8) -> AccessAssignDlUsage
         ensures { result ≡ dl_usage_of field }
     {

@@ -18,6 +18,7 @@ pub enum AccessAssignUlUsage {
 
 impl AccessAssignUlUsage {
     // The usage of a marker.
+    #[tactic(auto, unfolding(crate::specs::Usage::ul_usage, crate::specs::Usage::ul_usage_of))]
     pub fn from_usage_marker(field: u8) -> Option<AccessAssignUlUsage>
         ensures { result ≡ ul_usage field }
     {

@@ -16,6 +16,7 @@ pub struct AccessField {
 
 impl AccessField {
     // The access field of a field's bits, the low 6 of v. The Rust's try_from takes them too, and never fails.
+    #[tactic(auto, unfolding(crate::specs::AccessField::access_field_of))]
     pub fn from_raw(v: u64) -> AccessField
         ensures { result ≡ access_field_of v }
     {
