@@ -13,7 +13,6 @@ use tetra_fields::enums::reservation_requirement::{ReqSlotcount, ReservationRequ
 use tetra_fields::enums::{
     basic_slotgrant_cap_alloc as cap_alloc, reservation_requirement as reservation,
 };
-use codec::cases::NoCase;
 
 #[derive(Clone, Copy)]
 pub enum CodeCall {
@@ -56,11 +55,9 @@ impl TryFrom<u64> for CodeCall {
 }
 
 // An enum that is a field.
-trait Coded {
+trait Coded: Copy + Into<u64> {
     // The place of the case that has the name.
     fn place(self) -> u64;
-
-    fn code(self) -> u64;
 }
 
 impl Coded for BasicSlotgrantCapAlloc {
@@ -84,10 +81,6 @@ impl Coded for BasicSlotgrantCapAlloc {
             BasicSlotgrantCapAlloc::SecondSubslotGranted => 15,
         }
     }
-
-    fn code(self) -> u64 {
-        self.into_raw()
-    }
 }
 
 impl Coded for BasicSlotgrantGrantingDelay {
@@ -98,10 +91,6 @@ impl Coded for BasicSlotgrantGrantingDelay {
             BasicSlotgrantGrantingDelay::AllocStartsAtOpportunityInFr18 => 2,
             BasicSlotgrantGrantingDelay::WaitForAnotherSlotgrantMessage => 3,
         }
-    }
-
-    fn code(self) -> u64 {
-        self.into_raw()
     }
 }
 
@@ -114,10 +103,6 @@ impl Coded for ReservationRequirement {
             ReqSlotcount::Over68 => 99,
         }
     }
-
-    fn code(self) -> u64 {
-        self.into_raw()
-    }
 }
 
 impl Coded for AccessCode {
@@ -128,10 +113,6 @@ impl Coded for AccessCode {
             AccessCode::AccessCodeC => 2,
             AccessCode::AccessCodeD => 3,
         }
-    }
-
-    fn code(self) -> u64 {
-        self.into_raw()
     }
 }
 
@@ -156,10 +137,6 @@ impl Coded for BaseFrameLength {
             BaseFrameLength::Subslots32 => 15,
         }
     }
-
-    fn code(self) -> u64 {
-        self.into_raw()
-    }
 }
 
 impl Coded for MacResourceAddrType {
@@ -175,26 +152,18 @@ impl Coded for MacResourceAddrType {
             MacResourceAddrType::SmiAndEventLabel => 7,
         }
     }
-
-    fn code(self) -> u64 {
-        self.into_raw()
-    }
 }
 
 // The place and the code of the case that there is.
-fn case<T: Coded + Copy>(found: Option<T>, out: &mut Words) -> Result<(), Stop> {
-    found.map(|a| [a.place(), a.code()]).tell(out)
+fn case<T: Coded>(found: Option<T>, out: &mut Words) -> Result<(), Stop> {
+    found.map(|a| [a.place(), a.into()]).tell(out)
 }
 
 // Both cases of an access field, and its code.
 fn field(f: AccessField) -> [u64; 3] {
     let access_code = f.access_code;
     let length = f.base_frame_len;
-    [
-        access_code.place(),
-        length.place(),
-        f.into_raw(),
-    ]
+    [access_code.place(), length.place(), f.into_raw()]
 }
 
 // What a case grants: the first subslot 0, slots their count, the second subslot 99.
@@ -227,18 +196,18 @@ impl CodeCall {
         let v = given.number(0);
         let req = given.count(0);
         match self {
-            CodeCall::Capacity => case(BasicSlotgrantCapAlloc::try_from(v), out),
-            CodeCall::GrantingDelay => case(BasicSlotgrantGrantingDelay::try_from(v), out),
+            CodeCall::Capacity => case(BasicSlotgrantCapAlloc::try_from(v).ok(), out),
+            CodeCall::GrantingDelay => case(BasicSlotgrantGrantingDelay::try_from(v).ok(), out),
             CodeCall::DelayCount => {
                 let d = BasicSlotgrantGrantingDelay::DelayNOpportunities(given.octet(0));
-                [d.code()].tell(out)
+                [d.into_raw()].tell(out)
             }
-            CodeCall::Reservation => case(ReservationRequirement::try_from(v), out),
+            CodeCall::Reservation => case(ReservationRequirement::try_from(v).ok(), out),
             CodeCall::ReservationFor => case(Some(reservation::from_req_slotcount(req)), out),
-            CodeCall::AccessCode => case(AccessCode::try_from(v), out),
-            CodeCall::BaseFrameLength => case(BaseFrameLength::try_from(v), out),
+            CodeCall::AccessCode => case(AccessCode::try_from(v).ok(), out),
+            CodeCall::BaseFrameLength => case(BaseFrameLength::try_from(v).ok(), out),
             CodeCall::AccessField => field(AccessField::from_raw(v)).tell(out),
-            CodeCall::AddressType => case(MacResourceAddrType::try_from(v), out),
+            CodeCall::AddressType => case(MacResourceAddrType::try_from(v).ok(), out),
             CodeCall::CapacityFor => case(cap_alloc::from_req_slotcount(req), out),
             CodeCall::Granted => [granted(BasicSlotgrantCapAlloc::from_raw(v))].tell(out),
         }

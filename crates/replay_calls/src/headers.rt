@@ -7,13 +7,13 @@ use access_assign::access_assign as assign;
 use access_assign::access_assign::AccessAssign;
 use access_assign::enums::access_assign_dl_usage::AccessAssignDlUsage;
 use access_assign::enums::access_assign_ul_usage::AccessAssignUlUsage;
-use access_assign::structs::access_field;
+use access_assign::structs::access_field::AccessField;
 use mac_access::mac_access as access;
 use mac_access::mac_access::{MacAccess, MacAccessOption};
 use mac_resource::mac_resource as resource;
 use mac_resource::mac_resource::MacResource;
 use tetra_core::address::{DownlinkAddress, SsiType, UplinkAddress};
-use tetra_fields::enums::reservation_requirement as reservation;
+use tetra_fields::enums::reservation_requirement::ReservationRequirement;
 use tetra_mac::address;
 
 #[derive(Clone, Copy)]
@@ -74,10 +74,7 @@ fn access_fields(a: AccessAssign) -> Result<[u64; 2], Stop> {
         AccessAssign::DownlinkCommonControlUplinkCommonOnly {
             access_field_1,
             access_field_2,
-        } => Ok([
-            access_field_1.into_raw(),
-            access_field_2.into_raw(),
-        ]),
+        } => Ok([access_field_1.into_raw(), access_field_2.into_raw()]),
         _ => Err(Stop::Malformed),
     }
 }
