@@ -1,6 +1,6 @@
 -- ACCESS-ASSIGN (document 01): "Header 2, field one 6, field two 6. Header 0: two access fields .. Headers 1 and 2: downlink usage, access
 -- field. Header 3: downlink usage, uplink usage."
-use Rattle.std.specs.Prelude.{ℕ, ◌+◌, ◌≡◌, List, [], ◌∷◌, Bool, false, drop, eqb, Result, Err, Ok}
+use Rattle.std.specs.Prelude.{ℕ, ◌≡◌, List, [], ◌∷◌, Bool, false, eqb, Result, Err, Ok}
 use Rattle.tetra_core.specs.Refusal.{first}
 use Rattle.tetra_core.specs.declared.bitbuffer.Cursor.{Cursor}
 use Rattle.tetra_core.specs.declared.bitbuffer.Read.{Read}

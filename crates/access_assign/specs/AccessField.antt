@@ -1,5 +1,7 @@
 -- An access field (document 01): "code 2, base frame length 4, as `into_raw`; all 64 values read". It is one field of 6 bits.
-use Rattle.std.specs.Prelude.{ℕ, ◌+◌, ◌*◌, ◌/◌, ◌%◌, List, [], ◌∷◌, cond, get_or, leb, None, Option, Some}
+use Rattle.std.specs.Prelude.{ℕ, ◌+◌, ◌*◌, ◌/◌, ◌%◌, List, [], ◌∷◌, get_or, Result}
+use Rattle.codec.specs.Cases.{case_up_to}
+use Rattle.codec.specs.declared.cases.NoCase.{NoCase}
 use Rattle.access_assign.specs.declared.enums.access_code.AccessCode.{AccessCode}
 use Rattle.access_assign.specs.declared.enums.access_code.AccessCode.TheVariants.{AccessCodeA, AccessCodeB, AccessCodeC, AccessCodeD}
 use Rattle.access_assign.specs.declared.structs.base_frame_length.BaseFrameLength.{BaseFrameLength}
@@ -23,8 +25,8 @@ unfoldable pub access_code_of : ℕ → AccessCode
 access_code_of v = get_or access_codes (v % 4) AccessCodeD
 
 -- of a number, where it is one of 2 bits
-abbrev pub access_code_case : ℕ → Option AccessCode
-access_code_case v = cond (leb v 3) (Some (access_code_of v)) None
+abbrev pub access_code_case : ℕ → Result AccessCode NoCase
+access_code_case = case_up_to 3 access_code_of
 
 abbrev pub base_frame_length_number : BaseFrameLength → ℕ
 base_frame_length_number ReservedSubslot = 0
@@ -69,8 +71,8 @@ unfoldable pub base_frame_length_of : ℕ → BaseFrameLength
 base_frame_length_of v = get_or base_frame_lengths (v % 16) Subslots32
 
 -- of a number, where it is one of 4 bits
-abbrev pub base_frame_length_case : ℕ → Option BaseFrameLength
-base_frame_length_case v = cond (leb v 15) (Some (base_frame_length_of v)) None
+abbrev pub base_frame_length_case : ℕ → Result BaseFrameLength NoCase
+base_frame_length_case = case_up_to 15 base_frame_length_of
 
 -- ---- the field
 

@@ -8,8 +8,6 @@ ghost use Rattle.access_assign.specs.AccessAssign.{assign_size, default_access_a
 use crate::enums::access_assign_dl_usage::AccessAssignDlUsage;
 use crate::enums::access_assign_ul_usage::AccessAssignUlUsage;
 use crate::enums::access_code::AccessCode;
-use crate::enums::{access_assign_dl_usage as dl_usage, access_assign_ul_usage as ul_usage};
-use crate::structs::access_field;
 use crate::structs::access_field::AccessField;
 use crate::structs::base_frame_length::BaseFrameLength;
 use codec::encoded::Encoded;
@@ -83,40 +81,41 @@ pub fn dl_is_traffic(a: AccessAssign) -> bool
         AccessAssign::DownlinkDefinedUplinkCommonAndAssigned {
             downlink_usage_marker,
             access_field: _,
-        } => dl_usage::is_traffic(downlink_usage_marker),
+        } => downlink_usage_marker.is_traffic(),
         AccessAssign::DownlinkDefinedUplinkAssignedOnly {
             downlink_usage_marker,
             access_field: _,
-        } => dl_usage::is_traffic(downlink_usage_marker),
+        } => downlink_usage_marker.is_traffic(),
         AccessAssign::DownlinkDefinedUplinkDefined {
             downlink_usage_marker,
             uplink_usage_marker: _,
-        } => dl_usage::is_traffic(downlink_usage_marker),
+        } => downlink_usage_marker.is_traffic(),
     }
 }
 
 // What the three fields of an ACCESS-ASSIGN say, of which field two begins at the offset second.
+#[tactic(auto, unfolding(crate::specs::AccessAssign::access_assign_of))]
 fn access_assign_of(header: u64, one: u64, two: u64, second: usize) -> Result<AccessAssign, Refusal>
     requires { (one < 64) × (two < 64) }
     ensures { Says header one two second result }
 {
     match header {
         0 => Ok(AccessAssign::DownlinkCommonControlUplinkCommonOnly {
-            access_field_1: access_field::from_raw(one),
-            access_field_2: access_field::from_raw(two),
+            access_field_1: AccessField::from_raw(one),
+            access_field_2: AccessField::from_raw(two),
         }),
         1 => Ok(AccessAssign::DownlinkDefinedUplinkCommonAndAssigned {
-            downlink_usage_marker: dl_usage::from_usage_marker(one as u8),
-            access_field: access_field::from_raw(two),
+            downlink_usage_marker: AccessAssignDlUsage::from_usage_marker(one as u8),
+            access_field: AccessField::from_raw(two),
         }),
         2 => Ok(AccessAssign::DownlinkDefinedUplinkAssignedOnly {
-            downlink_usage_marker: dl_usage::from_usage_marker(one as u8),
-            access_field: access_field::from_raw(two),
+            downlink_usage_marker: AccessAssignDlUsage::from_usage_marker(one as u8),
+            access_field: AccessField::from_raw(two),
         }),
-        _ => match ul_usage::from_usage_marker(two as u8) {
+        _ => match AccessAssignUlUsage::from_usage_marker(two as u8) {
             Some(uplink_usage_marker) => {
                 Ok(AccessAssign::DownlinkDefinedUplinkDefined {
-                    downlink_usage_marker: dl_usage::from_usage_marker(one as u8),
+                    downlink_usage_marker: AccessAssignDlUsage::from_usage_marker(one as u8),
                     uplink_usage_marker,
                 })
             }
@@ -170,20 +169,20 @@ pub fn access_assign_refusal(a: AccessAssign) -> u8
         AccessAssign::DownlinkDefinedUplinkCommonAndAssigned {
             downlink_usage_marker,
             access_field: _,
-        } => dl_usage::usage_refusal(downlink_usage_marker),
+        } => downlink_usage_marker.usage_refusal(),
         AccessAssign::DownlinkDefinedUplinkAssignedOnly {
             downlink_usage_marker,
             access_field: _,
-        } => dl_usage::usage_refusal(downlink_usage_marker),
+        } => downlink_usage_marker.usage_refusal(),
         AccessAssign::DownlinkDefinedUplinkDefined {
             downlink_usage_marker,
             uplink_usage_marker,
         } => {
-            let number = dl_usage::usage_refusal(downlink_usage_marker);
+            let number = downlink_usage_marker.usage_refusal();
             if number != 0 {
                 return number;
             }
-            ul_usage::usage_refusal(uplink_usage_marker)
+            uplink_usage_marker.usage_refusal()
         }
     }
 }
@@ -220,19 +219,19 @@ fn field_one(a: AccessAssign) -> u64
         AccessAssign::DownlinkCommonControlUplinkCommonOnly {
             access_field_1,
             access_field_2: _,
-        } => access_field::into_raw(access_field_1),
+        } => access_field_1.into_raw(),
         AccessAssign::DownlinkDefinedUplinkCommonAndAssigned {
             downlink_usage_marker,
             access_field: _,
-        } => dl_usage::to_usage_marker(downlink_usage_marker) as u64,
+        } => downlink_usage_marker.to_usage_marker() as u64,
         AccessAssign::DownlinkDefinedUplinkAssignedOnly {
             downlink_usage_marker,
             access_field: _,
-        } => dl_usage::to_usage_marker(downlink_usage_marker) as u64,
+        } => downlink_usage_marker.to_usage_marker() as u64,
         AccessAssign::DownlinkDefinedUplinkDefined {
             downlink_usage_marker,
             uplink_usage_marker: _,
-        } => dl_usage::to_usage_marker(downlink_usage_marker) as u64,
+        } => downlink_usage_marker.to_usage_marker() as u64,
     }
 }
 
@@ -244,19 +243,19 @@ fn field_two(a: AccessAssign) -> u64
         AccessAssign::DownlinkCommonControlUplinkCommonOnly {
             access_field_1: _,
             access_field_2,
-        } => access_field::into_raw(access_field_2),
+        } => access_field_2.into_raw(),
         AccessAssign::DownlinkDefinedUplinkCommonAndAssigned {
             downlink_usage_marker: _,
             access_field,
-        } => access_field::into_raw(access_field),
+        } => access_field.into_raw(),
         AccessAssign::DownlinkDefinedUplinkAssignedOnly {
             downlink_usage_marker: _,
             access_field,
-        } => access_field::into_raw(access_field),
+        } => access_field.into_raw(),
         AccessAssign::DownlinkDefinedUplinkDefined {
             downlink_usage_marker: _,
             uplink_usage_marker,
-        } => match ul_usage::to_usage_marker(uplink_usage_marker) {
+        } => match uplink_usage_marker.to_usage_marker() {
             Some(marker) => marker as u64,
             // refused before it is written
             None => 0,

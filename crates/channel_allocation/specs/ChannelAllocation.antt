@@ -1,7 +1,7 @@
 -- The channel allocation (document 01): "Allocation type 2 (0 replace, 1 additional, 2 quit and go, 3 replace with carrier signalling),
 -- timeslots 4 (slot 1 first), direction 2 (0 augmented, 1 down, 2 up, 3 both), CLCH permission 1, cell change 1, carrier 12, extension flag
 -- 1, monitoring pattern 2, and frame-18 pattern 2 only where the pattern is 0. Length 27 bits with pattern 0, else 25."
-use Rattle.std.specs.Prelude.{ℕ, zero, suc, ◌+◌, ◌*◌, ◌/◌, ◌%◌, ◌^◌, List, [], ◌∷◌, ◌++◌, Bool, cond, get_or, eqb, leb, ltb, Err, None, Ok, Option, Result, Some}
+use Rattle.std.specs.Prelude.{ℕ, zero, suc, ◌+◌, ◌*◌, ◌/◌, ◌%◌, ◌^◌, List, [], ◌∷◌, ◌++◌, Bool, cond, get_or, eqb, ltb, Err, None, Ok, Option, Result, Some}
 use Rattle.bits.specs.Bits.{digit}
 use Rattle.tetra_core.specs.Refusal.{unless, first}
 use Rattle.tetra_core.specs.declared.bitbuffer.Cursor.{Cursor}
@@ -12,7 +12,8 @@ use Rattle.codec.specs.Reader.{Reader, done, refuse, field, here, choose, ◌>>=
 use Rattle.codec.specs.Header.{at_cursor}
 use Rattle.codec.specs.Row.{Cell, cell, row_bits}
 use Rattle.codec.specs.Write.{write_at, written_at}
-use Rattle.codec.specs.Cases.{flag}
+use Rattle.codec.specs.Cases.{case_up_to, flag}
+use Rattle.codec.specs.declared.cases.NoCase.{NoCase}
 use Rattle.channel_allocation.specs.declared.enums.alloc_type.ChanAllocType.{ChanAllocType}
 use Rattle.channel_allocation.specs.declared.enums.alloc_type.ChanAllocType.TheVariants.{Replace, Additional, QuitAndGo, ReplaceWithCarrierSignalling}
 use Rattle.channel_allocation.specs.declared.enums.ul_dl_assignment.UlDlAssignment.{UlDlAssignment}
@@ -38,8 +39,8 @@ unfoldable pub alloc_type_of : ℕ → ChanAllocType
 alloc_type_of v = get_or alloc_types (v % 4) ReplaceWithCarrierSignalling
 
 -- of a number, where it is one of 2 bits
-abbrev pub alloc_type_case : ℕ → Option ChanAllocType
-alloc_type_case v = cond (leb v 3) (Some (alloc_type_of v)) None
+abbrev pub alloc_type_case : ℕ → Result ChanAllocType NoCase
+alloc_type_case = case_up_to 3 alloc_type_of
 
 abbrev pub ul_dl_number : UlDlAssignment → ℕ
 ul_dl_number Augmented = 0
@@ -55,8 +56,8 @@ unfoldable pub ul_dl_of : ℕ → UlDlAssignment
 ul_dl_of v = get_or ul_dls (v % 4) Both
 
 -- of a number, where it is one of 2 bits
-abbrev pub ul_dl_case : ℕ → Option UlDlAssignment
-ul_dl_case v = cond (leb v 3) (Some (ul_dl_of v)) None
+abbrev pub ul_dl_case : ℕ → Result UlDlAssignment NoCase
+ul_dl_case = case_up_to 3 ul_dl_of
 
 -- "slot 1 first"
 abbrev pub timeslots_number : TimeslotsAssigned → ℕ

@@ -8,7 +8,6 @@ ghost use Rattle.channel_allocation.specs.ChannelAllocation.{timeslots_of, times
 
 use crate::enums::alloc_type::ChanAllocType;
 use crate::enums::ul_dl_assignment::UlDlAssignment;
-use crate::enums::{alloc_type, ul_dl_assignment};
 use codec::encoded::Encoded;
 use codec::header::Header;
 use codec::piece::Piece;
@@ -153,9 +152,9 @@ fn element_of(x: u64, p: MonPatterns) -> ChanAllocElement
 {
     let frame18_mon_pattern = p.frame18_mon_pattern;
     ChanAllocElement {
-        alloc_type: alloc_type::from_raw(x / ALLOC_TYPE % 4),
+        alloc_type: ChanAllocType::from_raw(x / ALLOC_TYPE % 4),
         ts_assigned: timeslots_from_raw(x / TIMESLOTS % 16),
-        ul_dl_assigned: ul_dl_assignment::from_raw(x / DIRECTION % 4),
+        ul_dl_assigned: UlDlAssignment::from_raw(x / DIRECTION % 4),
         clch_permission: x / CLCH_PERMISSION % 2 != 0,
         cell_change_flag: x / CELL_CHANGE % 2 != 0,
         carrier_num: (x / CARRIER % 4096) as u16,
@@ -279,9 +278,9 @@ fn head_word(e: ChanAllocElement) -> u64
     let alloc_type = e.alloc_type;
     let ts_assigned = e.ts_assigned;
     let ul_dl_assigned = e.ul_dl_assigned;
-    let a = alloc_type::into_raw(alloc_type);
+    let a = alloc_type.into_raw();
     let t = timeslots_into_raw(ts_assigned);
-    let d = ul_dl_assignment::into_raw(ul_dl_assigned);
+    let d = ul_dl_assigned.into_raw();
     let c = codec::bit(e.clch_permission);
     let f = codec::bit(e.cell_change_flag);
     let n = e.carrier_num as u64;

@@ -1,6 +1,7 @@
 // What every header codec is made of: several fields by one read, several fields by one write, and the decisions that all calls share.
 #![tactic(auto)]
 
+pub mod cases;
 pub mod encoded;
 pub mod header;
 pub mod piece;

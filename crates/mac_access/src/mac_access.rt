@@ -13,7 +13,6 @@ use tetra_core::address::UplinkAddress;
 use tetra_core::bitbuffer::{Cursor, Moved, Read};
 use tetra_core::refusal;
 use tetra_core::refusal::Refusal;
-use tetra_fields::enums::reservation_requirement;
 use tetra_fields::enums::reservation_requirement::ReservationRequirement;
 use tetra_fields::fields::uplink_head;
 use tetra_fields::fields::uplink_head::UplinkHead;
@@ -115,7 +114,7 @@ fn read_chosen(a: Ahead) -> Result<(Ahead, MacAccessOption), Refusal>
     if x / SELECTOR % 2 == 0 {
         return Ok((after, MacAccessOption::LengthInd((x % 32) as u8)));
     }
-    let req = reservation_requirement::from_raw(x % 16);
+    let req = ReservationRequirement::from_raw(x % 16);
     Ok((
         after,
         MacAccessOption::CapacityRequest(x / FRAGMENT % 2 != 0, req),
@@ -225,7 +224,7 @@ fn mac_access_word(h: MacAccess) -> u64
         }
         MacAccessOption::CapacityRequest(frag_flag, reservation_req) => {
             let frag = codec::bit(frag_flag);
-            let req = reservation_requirement::into_raw(reservation_req);
+            let req = reservation_req.into_raw();
             head * BEFORE_OPTION + (1 * OPTION_FLAG + (1 * SELECTOR + (frag * FRAGMENT + req)))
         }
     }

@@ -13,7 +13,6 @@ use tetra_core::address::UplinkAddress;
 use tetra_core::bitbuffer::{Cursor, Moved, Read};
 use tetra_core::refusal;
 use tetra_core::refusal::Refusal;
-use tetra_fields::enums::reservation_requirement;
 use tetra_fields::enums::reservation_requirement::ReservationRequirement;
 use tetra_fields::fields::uplink_head;
 use tetra_fields::fields::uplink_head::UplinkHead;
@@ -86,7 +85,7 @@ fn read_option(a: Ahead) -> Result<(Ahead, MacDataOption), Refusal>
     if x / SELECTOR % 2 == 0 {
         return Ok((after, MacDataOption::LengthInd((x % 64) as u8)));
     }
-    let req = reservation_requirement::from_raw(x / RESERVATION % 16);
+    let req = ReservationRequirement::from_raw(x / RESERVATION % 16);
     Ok((
         after,
         MacDataOption::CapacityRequest(x / FRAGMENT % 2 != 0, req),
@@ -160,7 +159,7 @@ fn option_word(option: MacDataOption) -> u64
         MacDataOption::LengthInd(n) => 0 * SELECTOR + n as u64,
         MacDataOption::CapacityRequest(frag_flag, reservation_req) => {
             let frag = codec::bit(frag_flag);
-            let req = reservation_requirement::into_raw(reservation_req);
+            let req = reservation_req.into_raw();
             1 * SELECTOR + (frag * FRAGMENT + (req * RESERVATION + 0))
         }
     }

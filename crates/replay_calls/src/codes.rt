@@ -3,19 +3,15 @@
 use crate::answers::{Stop, Tell, Words};
 use crate::calls::UnknownCall;
 use crate::given::Given;
-use access_assign::enums::access_code;
 use access_assign::enums::access_code::AccessCode;
 use access_assign::structs::access_field::AccessField;
 use access_assign::structs::base_frame_length::BaseFrameLength;
-use access_assign::structs::{access_field, base_frame_length};
-use mac_resource::enums::mac_resource_addr_type as addr_type;
 use mac_resource::enums::mac_resource_addr_type::MacResourceAddrType;
 use tetra_fields::enums::basic_slotgrant_cap_alloc::{BasicSlotgrantCapAlloc, GrantedSlots};
 use tetra_fields::enums::basic_slotgrant_granting_delay::BasicSlotgrantGrantingDelay;
 use tetra_fields::enums::reservation_requirement::{ReqSlotcount, ReservationRequirement};
 use tetra_fields::enums::{
-    basic_slotgrant_cap_alloc as cap_alloc, basic_slotgrant_granting_delay as delay,
-    reservation_requirement as reservation,
+    basic_slotgrant_cap_alloc as cap_alloc, reservation_requirement as reservation,
 };
 
 #[derive(Clone, Copy)]
@@ -59,11 +55,9 @@ impl TryFrom<u64> for CodeCall {
 }
 
 // An enum that is a field.
-trait Coded {
+trait Coded: Copy + Into<u64> {
     // The place of the case that has the name.
     fn place(self) -> u64;
-
-    fn code(self) -> u64;
 }
 
 impl Coded for BasicSlotgrantCapAlloc {
@@ -87,10 +81,6 @@ impl Coded for BasicSlotgrantCapAlloc {
             BasicSlotgrantCapAlloc::SecondSubslotGranted => 15,
         }
     }
-
-    fn code(self) -> u64 {
-        cap_alloc::into_raw(self)
-    }
 }
 
 impl Coded for BasicSlotgrantGrantingDelay {
@@ -101,10 +91,6 @@ impl Coded for BasicSlotgrantGrantingDelay {
             BasicSlotgrantGrantingDelay::AllocStartsAtOpportunityInFr18 => 2,
             BasicSlotgrantGrantingDelay::WaitForAnotherSlotgrantMessage => 3,
         }
-    }
-
-    fn code(self) -> u64 {
-        delay::into_raw(self)
     }
 }
 
@@ -117,10 +103,6 @@ impl Coded for ReservationRequirement {
             ReqSlotcount::Over68 => 99,
         }
     }
-
-    fn code(self) -> u64 {
-        reservation::into_raw(self)
-    }
 }
 
 impl Coded for AccessCode {
@@ -131,10 +113,6 @@ impl Coded for AccessCode {
             AccessCode::AccessCodeC => 2,
             AccessCode::AccessCodeD => 3,
         }
-    }
-
-    fn code(self) -> u64 {
-        access_code::into_raw(self)
     }
 }
 
@@ -159,10 +137,6 @@ impl Coded for BaseFrameLength {
             BaseFrameLength::Subslots32 => 15,
         }
     }
-
-    fn code(self) -> u64 {
-        base_frame_length::into_raw(self)
-    }
 }
 
 impl Coded for MacResourceAddrType {
@@ -178,26 +152,18 @@ impl Coded for MacResourceAddrType {
             MacResourceAddrType::SmiAndEventLabel => 7,
         }
     }
-
-    fn code(self) -> u64 {
-        addr_type::into_raw(self)
-    }
 }
 
 // The place and the code of the case that there is.
-fn case<T: Coded + Copy>(found: Option<T>, out: &mut Words) -> Result<(), Stop> {
-    found.map(|a| [a.place(), a.code()]).tell(out)
+fn case<T: Coded>(found: Option<T>, out: &mut Words) -> Result<(), Stop> {
+    found.map(|a| [a.place(), a.into()]).tell(out)
 }
 
 // Both cases of an access field, and its code.
 fn field(f: AccessField) -> [u64; 3] {
     let access_code = f.access_code;
     let length = f.base_frame_len;
-    [
-        access_code.place(),
-        length.place(),
-        access_field::into_raw(f),
-    ]
+    [access_code.place(), length.place(), f.into_raw()]
 }
 
 // What a case grants: the first subslot 0, slots their count, the second subslot 99.
@@ -230,20 +196,20 @@ impl CodeCall {
         let v = given.number(0);
         let req = given.count(0);
         match self {
-            CodeCall::Capacity => case(cap_alloc::try_from(v), out),
-            CodeCall::GrantingDelay => case(delay::try_from(v), out),
+            CodeCall::Capacity => case(BasicSlotgrantCapAlloc::try_from(v).ok(), out),
+            CodeCall::GrantingDelay => case(BasicSlotgrantGrantingDelay::try_from(v).ok(), out),
             CodeCall::DelayCount => {
                 let d = BasicSlotgrantGrantingDelay::DelayNOpportunities(given.octet(0));
-                [d.code()].tell(out)
+                [d.into_raw()].tell(out)
             }
-            CodeCall::Reservation => case(reservation::try_from(v), out),
+            CodeCall::Reservation => case(ReservationRequirement::try_from(v).ok(), out),
             CodeCall::ReservationFor => case(Some(reservation::from_req_slotcount(req)), out),
-            CodeCall::AccessCode => case(access_code::try_from(v), out),
-            CodeCall::BaseFrameLength => case(base_frame_length::try_from(v), out),
-            CodeCall::AccessField => field(access_field::from_raw(v)).tell(out),
-            CodeCall::AddressType => case(addr_type::try_from(v), out),
+            CodeCall::AccessCode => case(AccessCode::try_from(v).ok(), out),
+            CodeCall::BaseFrameLength => case(BaseFrameLength::try_from(v).ok(), out),
+            CodeCall::AccessField => field(AccessField::from_raw(v)).tell(out),
+            CodeCall::AddressType => case(MacResourceAddrType::try_from(v).ok(), out),
             CodeCall::CapacityFor => case(cap_alloc::from_req_slotcount(req), out),
-            CodeCall::Granted => [granted(cap_alloc::from_raw(v))].tell(out),
+            CodeCall::Granted => [granted(BasicSlotgrantCapAlloc::from_raw(v))].tell(out),
         }
     }
 }

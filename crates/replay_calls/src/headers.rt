@@ -7,13 +7,13 @@ use access_assign::access_assign as assign;
 use access_assign::access_assign::AccessAssign;
 use access_assign::enums::access_assign_dl_usage::AccessAssignDlUsage;
 use access_assign::enums::access_assign_ul_usage::AccessAssignUlUsage;
-use access_assign::structs::access_field;
+use access_assign::structs::access_field::AccessField;
 use mac_access::mac_access as access;
 use mac_access::mac_access::{MacAccess, MacAccessOption};
 use mac_resource::mac_resource as resource;
 use mac_resource::mac_resource::MacResource;
 use tetra_core::address::{DownlinkAddress, SsiType, UplinkAddress};
-use tetra_fields::enums::reservation_requirement as reservation;
+use tetra_fields::enums::reservation_requirement::ReservationRequirement;
 use tetra_mac::address;
 
 #[derive(Clone, Copy)]
@@ -50,7 +50,7 @@ impl TryFrom<u64> for HeaderCall {
 
 // An ACCESS-ASSIGN of a header with a downlink usage, where it has one.
 fn assign_of(header: u64, downlink_usage_marker: AccessAssignDlUsage) -> AccessAssign {
-    let access_field = access_field::from_raw(0);
+    let access_field = AccessField::from_raw(0);
     match header {
         0 => assign::default_access_assign(),
         1 => AccessAssign::DownlinkDefinedUplinkCommonAndAssigned {
@@ -74,10 +74,7 @@ fn access_fields(a: AccessAssign) -> Result<[u64; 2], Stop> {
         AccessAssign::DownlinkCommonControlUplinkCommonOnly {
             access_field_1,
             access_field_2,
-        } => Ok([
-            access_field::into_raw(access_field_1),
-            access_field::into_raw(access_field_2),
-        ]),
+        } => Ok([access_field_1.into_raw(), access_field_2.into_raw()]),
         _ => Err(Stop::Malformed),
     }
 }
@@ -88,7 +85,7 @@ fn access_of(given: Given<'_>) -> MacAccess {
         0 => MacAccessOption::Without,
         1 => MacAccessOption::LengthInd(given.octet(1)),
         _ => {
-            let requirement = reservation::from_raw(given.number(2));
+            let requirement = ReservationRequirement::from_raw(given.number(2));
             MacAccessOption::CapacityRequest(given.number(1) == 1, requirement)
         }
     };

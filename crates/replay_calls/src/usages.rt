@@ -4,9 +4,6 @@ use crate::calls::UnknownCall;
 use crate::given::Given;
 use access_assign::enums::access_assign_dl_usage::AccessAssignDlUsage;
 use access_assign::enums::access_assign_ul_usage::AccessAssignUlUsage;
-use access_assign::enums::{
-    access_assign_dl_usage as dl_usage, access_assign_ul_usage as ul_usage,
-};
 
 // What is asked of a usage, by the numbers 96 to 99 in the downlink, and 100 to 103 in the uplink.
 #[derive(Clone, Copy)]
@@ -84,19 +81,19 @@ impl Usage for AccessAssignDlUsage {
     }
 
     fn from_usage_marker(field: u8) -> Option<AccessAssignDlUsage> {
-        Some(dl_usage::from_usage_marker(field))
+        Some(AccessAssignDlUsage::from_usage_marker(field))
     }
 
     fn to_usage_marker(self) -> Option<u8> {
-        Some(dl_usage::to_usage_marker(self))
+        Some(self.to_usage_marker())
     }
 
     fn is_traffic(self) -> bool {
-        dl_usage::is_traffic(self)
+        self.is_traffic()
     }
 
     fn get_tchan(self) -> Option<u8> {
-        dl_usage::get_tchan(self)
+        self.get_tchan()
     }
 }
 
@@ -112,19 +109,19 @@ impl Usage for AccessAssignUlUsage {
     }
 
     fn from_usage_marker(field: u8) -> Option<AccessAssignUlUsage> {
-        ul_usage::from_usage_marker(field)
+        AccessAssignUlUsage::from_usage_marker(field)
     }
 
     fn to_usage_marker(self) -> Option<u8> {
-        ul_usage::to_usage_marker(self)
+        self.to_usage_marker()
     }
 
     fn is_traffic(self) -> bool {
-        ul_usage::is_traffic(self)
+        self.is_traffic()
     }
 
     fn get_tchan(self) -> Option<u8> {
-        ul_usage::get_tchan(self)
+        self.get_tchan()
     }
 }
 

@@ -1,5 +1,5 @@
 -- The slot grant (document 01): "8 bits: capacity 4, delay 4. Delay 0 is next opportunity, 1 to 13 that many, 14 frame 18, 15 wait."
-use Rattle.std.specs.Prelude.{ℕ, ◌%◌, List, [], ◌∷◌, cond, ◌&&◌, get_or, eqb, leb, None, Option, Some}
+use Rattle.std.specs.Prelude.{ℕ, ◌%◌, List, [], ◌∷◌, cond, ◌&&◌, get_or, eqb, leb, None, Option, Some, Result}
 use Rattle.tetra_core.specs.Refusal.{unless}
 use Rattle.tetra_core.specs.declared.bitbuffer.Cursor.{Cursor}
 use Rattle.tetra_core.specs.declared.bitbuffer.Read.{Read}
@@ -8,6 +8,8 @@ use Rattle.codec.specs.Reader.{Reader, done, field, ◌>>=◌}
 use Rattle.codec.specs.Header.{at_cursor}
 use Rattle.codec.specs.Row.{Cell, cell, row_bits}
 use Rattle.codec.specs.Write.{write_at, written_at}
+use Rattle.codec.specs.Cases.{case_up_to}
+use Rattle.codec.specs.declared.cases.NoCase.{NoCase}
 use Rattle.tetra_fields.specs.ReservationRequirement.{reservation_number, reservation_of, slotcount, reservation_for}
 use Rattle.tetra_fields.specs.declared.enums.reservation_requirement.ReqSlotcount.{ReqSlotcount}
 use Rattle.tetra_fields.specs.declared.enums.reservation_requirement.ReqSlotcount.TheVariants.{Subslot, Slots, Over68}
@@ -64,8 +66,8 @@ unfoldable pub cap_alloc_of : ℕ → BasicSlotgrantCapAlloc
 cap_alloc_of v = get_or cap_allocs (v % 16) SecondSubslotGranted
 
 -- of a number, where it is one of 4 bits
-abbrev pub cap_alloc_case : ℕ → Option BasicSlotgrantCapAlloc
-cap_alloc_case v = cond (leb v 15) (Some (cap_alloc_of v)) None
+abbrev pub cap_alloc_case : ℕ → Result BasicSlotgrantCapAlloc NoCase
+cap_alloc_case = case_up_to 15 cap_alloc_of
 
 abbrev pub delay_number : BasicSlotgrantGrantingDelay → ℕ
 delay_number CapAllocAtNextOpportunity = 0
@@ -83,8 +85,8 @@ unfoldable pub delay_of : ℕ → BasicSlotgrantGrantingDelay
 delay_of v = delay_of_bits (v % 16)
 
 -- of a number, where it is one of 4 bits
-abbrev pub delay_case : ℕ → Option BasicSlotgrantGrantingDelay
-delay_case v = cond (leb v 15) (Some (delay_of v)) None
+abbrev pub delay_case : ℕ → Result BasicSlotgrantGrantingDelay NoCase
+delay_case = case_up_to 15 delay_of
 
 -- ---- how many slots: the numbers 1 to 14 mean as many as in a reservation requirement, 0 and 15 are the subslots
 

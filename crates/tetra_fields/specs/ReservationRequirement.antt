@@ -1,6 +1,8 @@
 -- The reservation requirement, clause 21.5.4, 4 bits: "Codes 0 to 15 mean one subslot, then 1, 2, 3, 4, 5, 6, 8, 10, 13, 17, 24, 34, 51
 -- and 68 slots, and over 68".
-use Rattle.std.specs.Prelude.{ℕ, ◌%◌, List, [], ◌∷◌, Bool, true, cond, get_or, eqb, leb, None, Option, Some}
+use Rattle.std.specs.Prelude.{ℕ, ◌%◌, List, [], ◌∷◌, Bool, true, cond, get_or, eqb, leb, Result}
+use Rattle.codec.specs.Cases.{case_up_to}
+use Rattle.codec.specs.declared.cases.NoCase.{NoCase}
 use Rattle.tetra_fields.specs.declared.enums.reservation_requirement.ReservationRequirement.{ReservationRequirement}
 use Rattle.tetra_fields.specs.declared.enums.reservation_requirement.ReservationRequirement.TheVariants.{Req1Subslot, Req1Slot, Req2Slots, Req3Slots, Req4Slots, Req5Slots, Req6Slots, Req8Slots, Req10Slots, Req13Slots, Req17Slots, Req24Slots, Req34Slots, Req51Slots, Req68Slots, ReqOver68}
 use Rattle.tetra_fields.specs.declared.enums.reservation_requirement.ReqSlotcount.{ReqSlotcount}
@@ -51,8 +53,8 @@ unfoldable pub reservation_of : ℕ → ReservationRequirement
 reservation_of v = get_or reservations (v % 16) ReqOver68
 
 -- of a number, where it is one of 4 bits
-abbrev pub reservation_case : ℕ → Option ReservationRequirement
-reservation_case v = cond (leb v 15) (Some (reservation_of v)) None
+abbrev pub reservation_case : ℕ → Result ReservationRequirement NoCase
+reservation_case = case_up_to 15 reservation_of
 
 -- ---- what each case asks for
 

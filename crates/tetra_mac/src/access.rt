@@ -7,7 +7,7 @@ ghost use Rattle.tetra_mac.specs.MacAccess.{option_kind, option_first, option_re
 use crate::{address, record};
 use mac_access::mac_access::{MacAccess, MacAccessOption};
 use tetra_core::bitbuffer::Cursor;
-use tetra_fields::enums::reservation_requirement;
+use tetra_fields::enums::reservation_requirement::ReservationRequirement;
 use tetra_fields::fields::uplink_address;
 
 // The places of the record, which MAC-DATA has too, and its words; a read has the cursor before them.
@@ -58,7 +58,7 @@ fn option_reservation(o: MacAccessOption) -> u64
     match o {
         MacAccessOption::Without => 0,
         MacAccessOption::LengthInd(_) => 0,
-        MacAccessOption::CapacityRequest(_, q) => reservation_requirement::into_raw(q),
+        MacAccessOption::CapacityRequest(_, q) => q.into_raw(),
     }
 }
 
@@ -70,7 +70,7 @@ fn option_value(option: u64, first: u64, reservation: u64) -> MacAccessOption
         1 => MacAccessOption::LengthInd(record::number8(first)),
         _ => MacAccessOption::CapacityRequest(
             first != 0,
-            reservation_requirement::from_raw(reservation),
+            ReservationRequirement::from_raw(reservation),
         ),
     }
 }

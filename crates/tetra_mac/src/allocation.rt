@@ -7,7 +7,8 @@ ghost use Rattle.tetra_mac.specs.ChannelAllocation.{frame18_present, frame18_val
 use crate::record;
 use channel_allocation::channel_allocation as allocation;
 use channel_allocation::channel_allocation::ChanAllocElement;
-use channel_allocation::enums::{alloc_type, ul_dl_assignment};
+use channel_allocation::enums::alloc_type::ChanAllocType;
+use channel_allocation::enums::ul_dl_assignment::UlDlAssignment;
 use tetra_core::bitbuffer::Cursor;
 
 // The places of the record, and its words; a read has the cursor before them.
@@ -60,9 +61,9 @@ pub fn channel_allocation_words(e: ChanAllocElement) -> [u64; 9]
     let direction = e.ul_dl_assigned;
     let pattern = e.frame18_mon_pattern;
     [
-        alloc_type::into_raw(kind),
+        kind.into_raw(),
         allocation::timeslots_into_raw(slots),
-        ul_dl_assignment::into_raw(direction),
+        direction.into_raw(),
         codec::bit(e.clch_permission),
         codec::bit(e.cell_change_flag),
         e.carrier_num as u64,
@@ -97,9 +98,9 @@ pub fn channel_allocation_value(words: &[u64]) -> ChanAllocElement
     ensures { result ≡ channel_allocation_value words.now }
 {
     ChanAllocElement {
-        alloc_type: alloc_type::from_raw(words[ALLOC_TYPE]),
+        alloc_type: ChanAllocType::from_raw(words[ALLOC_TYPE]),
         ts_assigned: allocation::timeslots_from_raw(words[TIMESLOTS]),
-        ul_dl_assigned: ul_dl_assignment::from_raw(words[DIRECTION]),
+        ul_dl_assigned: UlDlAssignment::from_raw(words[DIRECTION]),
         clch_permission: words[CLCH_PERMISSION] != 0,
         cell_change_flag: words[CELL_CHANGE] != 0,
         carrier_num: record::number16(words[CARRIER]),

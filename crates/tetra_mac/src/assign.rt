@@ -8,9 +8,9 @@ use crate::record;
 use access_assign::access_assign::AccessAssign;
 use access_assign::enums::access_assign_dl_usage::AccessAssignDlUsage;
 use access_assign::enums::access_assign_ul_usage::AccessAssignUlUsage;
-use access_assign::enums::access_code;
+use access_assign::enums::access_code::AccessCode;
 use access_assign::structs::access_field::AccessField;
-use access_assign::structs::base_frame_length;
+use access_assign::structs::base_frame_length::BaseFrameLength;
 use tetra_core::bitbuffer::Cursor;
 
 // The places of the record, and its words; a read has the cursor before them.
@@ -33,10 +33,7 @@ fn field_words(f: AccessField) -> [u64; 2]
 {
     let code = f.access_code;
     let len = f.base_frame_len;
-    [
-        access_code::into_raw(code),
-        base_frame_length::into_raw(len),
-    ]
+    [code.into_raw(), len.into_raw()]
 }
 
 fn dl_kind(u: AccessAssignDlUsage) -> u64
@@ -112,8 +109,8 @@ fn field_value(code: u64, len: u64) -> AccessField
     ensures { result ≡ field_value code len }
 {
     AccessField {
-        access_code: access_code::from_raw(code),
-        base_frame_len: base_frame_length::from_raw(len),
+        access_code: AccessCode::from_raw(code),
+        base_frame_len: BaseFrameLength::from_raw(len),
     }
 }
 

@@ -5,7 +5,7 @@ ghost use Rattle.tetra_mac.specs.Slotgrant.{delay_kind, delay_count, delay_value
 
 use crate::record;
 use tetra_core::bitbuffer::Cursor;
-use tetra_fields::enums::basic_slotgrant_cap_alloc as cap_alloc;
+use tetra_fields::enums::basic_slotgrant_cap_alloc::BasicSlotgrantCapAlloc;
 use tetra_fields::enums::basic_slotgrant_granting_delay::BasicSlotgrantGrantingDelay;
 use tetra_fields::fields::basic_slotgrant;
 use tetra_fields::fields::basic_slotgrant::BasicSlotgrant;
@@ -61,11 +61,7 @@ pub fn slotgrant_words(g: BasicSlotgrant) -> [u64; 3]
 {
     let capacity = g.capacity_allocation;
     let delay = g.granting_delay;
-    [
-        cap_alloc::into_raw(capacity),
-        delay_kind(delay),
-        delay_count(delay),
-    ]
+    [capacity.into_raw(), delay_kind(delay), delay_count(delay)]
 }
 
 // Whether words are long enough for a slot grant and have no unknown code.
@@ -90,7 +86,7 @@ pub fn slotgrant_value(words: &[u64]) -> BasicSlotgrant
     ensures { result ≡ slotgrant_value words.now }
 {
     BasicSlotgrant {
-        capacity_allocation: cap_alloc::from_raw(words[CAPACITY]),
+        capacity_allocation: BasicSlotgrantCapAlloc::from_raw(words[CAPACITY]),
         granting_delay: delay_value(words[DELAY_KIND], record::number8(words[DELAY_COUNT])),
     }
 }

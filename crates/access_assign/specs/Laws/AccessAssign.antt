@@ -1,6 +1,6 @@
 -- An ACCESS-ASSIGN has 14 bits. One that nothing refuses is read back, and one that is read is not refused and is written as the same
 -- bits: so nothing is refused but what no bits can say.
-use Rattle.std.specs.Prelude.{ℕ, zero, suc, ◌+◌, ◌*◌, ◌/◌, ◌%◌, ◌≤◌, ◌<◌, ◌≡◌, refl, List, [], ◌∷◌, ◌++◌, Bool, true, false, length, take, drop, leb, Err, Ok}
+use Rattle.std.specs.Prelude.{ℕ, zero, suc, ◌+◌, ◌*◌, ◌/◌, ◌%◌, ◌≤◌, ◌<◌, ◌≡◌, refl, List, [], ◌∷◌, ◌++◌, Bool, true, false, length, take, drop, leb, Ok}
 use Rattle.std.proofs.Common.{sym, ap, ◌∙◌, arith, take-append-drop, length-take-le, take-take, drop-drop, lit<, leb-true, leb-false}
 use Rattle.bits.specs.Bits.{bits_of_nat, val, bits_of, bits_at, splice, put_bits, Bytes}
 use Rattle.tetra_core.specs.BitBuffer.{good_window, remaining, moved}

@@ -14,65 +14,68 @@ pub enum AccessAssignDlUsage {
     Traffic(u8),
 }
 
-// The usage of a marker.
-pub fn from_usage_marker(field: u8) -> AccessAssignDlUsage
-    ensures { result ≡ dl_usage_of field }
-{
-    match field {
-        0 => AccessAssignDlUsage::Unallocated,
-        1 => AccessAssignDlUsage::AssignedControl,
-        2 => AccessAssignDlUsage::CommonControl,
-        3 => AccessAssignDlUsage::CommonAndAssigned,
-        _ => AccessAssignDlUsage::Traffic(field),
+impl AccessAssignDlUsage {
+    // The usage of a marker.
+    #[tactic(auto, unfolding(crate::specs::Usage::dl_usage_of))]
+    pub fn from_usage_marker(field: u8) -> AccessAssignDlUsage
+        ensures { result ≡ dl_usage_of field }
+    {
+        match field {
+            0 => AccessAssignDlUsage::Unallocated,
+            1 => AccessAssignDlUsage::AssignedControl,
+            2 => AccessAssignDlUsage::CommonControl,
+            3 => AccessAssignDlUsage::CommonAndAssigned,
+            _ => AccessAssignDlUsage::Traffic(field),
+        }
     }
-}
 
-// The marker of a usage.
-pub fn to_usage_marker(u: AccessAssignDlUsage) -> u8
-    ensures { result ≡ dl_marker u }
-{
-    match u {
-        AccessAssignDlUsage::Unallocated => 0,
-        AccessAssignDlUsage::AssignedControl => 1,
-        AccessAssignDlUsage::CommonControl => 2,
-        AccessAssignDlUsage::CommonAndAssigned => 3,
-        AccessAssignDlUsage::Traffic(chan) => chan,
+    // The marker of a usage.
+    pub fn to_usage_marker(self) -> u8
+        ensures { result ≡ dl_marker self }
+    {
+        match self {
+            AccessAssignDlUsage::Unallocated => 0,
+            AccessAssignDlUsage::AssignedControl => 1,
+            AccessAssignDlUsage::CommonControl => 2,
+            AccessAssignDlUsage::CommonAndAssigned => 3,
+            AccessAssignDlUsage::Traffic(chan) => chan,
+        }
     }
-}
 
-pub fn is_traffic(u: AccessAssignDlUsage) -> bool
-    ensures { result ≡ dl_is_traffic u }
-{
-    match u {
-        AccessAssignDlUsage::Unallocated => false,
-        AccessAssignDlUsage::AssignedControl => false,
-        AccessAssignDlUsage::CommonControl => false,
-        AccessAssignDlUsage::CommonAndAssigned => false,
-        AccessAssignDlUsage::Traffic(_) => true,
+    pub fn is_traffic(self) -> bool
+        ensures { result ≡ dl_is_traffic self }
+    {
+        match self {
+            AccessAssignDlUsage::Unallocated => false,
+            AccessAssignDlUsage::AssignedControl => false,
+            AccessAssignDlUsage::CommonControl => false,
+            AccessAssignDlUsage::CommonAndAssigned => false,
+            AccessAssignDlUsage::Traffic(_) => true,
+        }
     }
-}
 
-pub fn get_tchan(u: AccessAssignDlUsage) -> Option<u8>
-    ensures { result ≡ dl_channel u }
-{
-    match u {
-        AccessAssignDlUsage::Unallocated => None,
-        AccessAssignDlUsage::AssignedControl => None,
-        AccessAssignDlUsage::CommonControl => None,
-        AccessAssignDlUsage::CommonAndAssigned => None,
-        AccessAssignDlUsage::Traffic(chan) => Some(chan),
+    pub fn get_tchan(self) -> Option<u8>
+        ensures { result ≡ dl_channel self }
+    {
+        match self {
+            AccessAssignDlUsage::Unallocated => None,
+            AccessAssignDlUsage::AssignedControl => None,
+            AccessAssignDlUsage::CommonControl => None,
+            AccessAssignDlUsage::CommonAndAssigned => None,
+            AccessAssignDlUsage::Traffic(chan) => Some(chan),
+        }
     }
-}
 
-// Why a usage is not written, or 0.
-pub fn usage_refusal(u: AccessAssignDlUsage) -> u8
-    ensures { result ≡ dl_refusal u }
-{
-    match u {
-        AccessAssignDlUsage::Unallocated => 0,
-        AccessAssignDlUsage::AssignedControl => 0,
-        AccessAssignDlUsage::CommonControl => 0,
-        AccessAssignDlUsage::CommonAndAssigned => 0,
-        AccessAssignDlUsage::Traffic(chan) => enums::traffic_refusal(chan),
+    // Why a usage is not written, or 0.
+    pub fn usage_refusal(self) -> u8
+        ensures { result ≡ dl_refusal self }
+    {
+        match self {
+            AccessAssignDlUsage::Unallocated => 0,
+            AccessAssignDlUsage::AssignedControl => 0,
+            AccessAssignDlUsage::CommonControl => 0,
+            AccessAssignDlUsage::CommonAndAssigned => 0,
+            AccessAssignDlUsage::Traffic(chan) => enums::traffic_refusal(chan),
+        }
     }
 }

@@ -16,65 +16,68 @@ pub enum AccessAssignUlUsage {
     Traffic(u8),
 }
 
-// The usage of a marker.
-pub fn from_usage_marker(field: u8) -> Option<AccessAssignUlUsage>
-    ensures { result ≡ ul_usage field }
-{
-    if field == 0 {
-        return Some(AccessAssignUlUsage::Unallocated);
+impl AccessAssignUlUsage {
+    // The usage of a marker.
+    #[tactic(auto, unfolding(crate::specs::Usage::ul_usage, crate::specs::Usage::ul_usage_of))]
+    pub fn from_usage_marker(field: u8) -> Option<AccessAssignUlUsage>
+        ensures { result ≡ ul_usage field }
+    {
+        if field == 0 {
+            return Some(AccessAssignUlUsage::Unallocated);
+        }
+        if field < 4 {
+            return None;
+        }
+        Some(AccessAssignUlUsage::Traffic(field))
     }
-    if field < 4 {
-        return None;
-    }
-    Some(AccessAssignUlUsage::Traffic(field))
-}
 
-// The marker of a usage.
-pub fn to_usage_marker(u: AccessAssignUlUsage) -> Option<u8>
-    ensures { result ≡ ul_marker u }
-{
-    match u {
-        AccessAssignUlUsage::CommonOnly => None,
-        AccessAssignUlUsage::CommonAndAssigned => None,
-        AccessAssignUlUsage::AssignedOnly => None,
-        AccessAssignUlUsage::Unallocated => Some(0),
-        AccessAssignUlUsage::Traffic(chan) => Some(chan),
+    // The marker of a usage.
+    pub fn to_usage_marker(self) -> Option<u8>
+        ensures { result ≡ ul_marker self }
+    {
+        match self {
+            AccessAssignUlUsage::CommonOnly => None,
+            AccessAssignUlUsage::CommonAndAssigned => None,
+            AccessAssignUlUsage::AssignedOnly => None,
+            AccessAssignUlUsage::Unallocated => Some(0),
+            AccessAssignUlUsage::Traffic(chan) => Some(chan),
+        }
     }
-}
 
-pub fn is_traffic(u: AccessAssignUlUsage) -> bool
-    ensures { result ≡ ul_is_traffic u }
-{
-    match u {
-        AccessAssignUlUsage::CommonOnly => false,
-        AccessAssignUlUsage::CommonAndAssigned => false,
-        AccessAssignUlUsage::AssignedOnly => false,
-        AccessAssignUlUsage::Unallocated => false,
-        AccessAssignUlUsage::Traffic(_) => true,
+    pub fn is_traffic(self) -> bool
+        ensures { result ≡ ul_is_traffic self }
+    {
+        match self {
+            AccessAssignUlUsage::CommonOnly => false,
+            AccessAssignUlUsage::CommonAndAssigned => false,
+            AccessAssignUlUsage::AssignedOnly => false,
+            AccessAssignUlUsage::Unallocated => false,
+            AccessAssignUlUsage::Traffic(_) => true,
+        }
     }
-}
 
-pub fn get_tchan(u: AccessAssignUlUsage) -> Option<u8>
-    ensures { result ≡ ul_channel u }
-{
-    match u {
-        AccessAssignUlUsage::CommonOnly => None,
-        AccessAssignUlUsage::CommonAndAssigned => None,
-        AccessAssignUlUsage::AssignedOnly => None,
-        AccessAssignUlUsage::Unallocated => None,
-        AccessAssignUlUsage::Traffic(chan) => Some(chan),
+    pub fn get_tchan(self) -> Option<u8>
+        ensures { result ≡ ul_channel self }
+    {
+        match self {
+            AccessAssignUlUsage::CommonOnly => None,
+            AccessAssignUlUsage::CommonAndAssigned => None,
+            AccessAssignUlUsage::AssignedOnly => None,
+            AccessAssignUlUsage::Unallocated => None,
+            AccessAssignUlUsage::Traffic(chan) => Some(chan),
+        }
     }
-}
 
-// Why a usage is not written, or 0.
-pub fn usage_refusal(u: AccessAssignUlUsage) -> u8
-    ensures { result ≡ ul_refusal u }
-{
-    match u {
-        AccessAssignUlUsage::CommonOnly => refusal::USAGE_MARKER,
-        AccessAssignUlUsage::CommonAndAssigned => refusal::USAGE_MARKER,
-        AccessAssignUlUsage::AssignedOnly => refusal::USAGE_MARKER,
-        AccessAssignUlUsage::Unallocated => 0,
-        AccessAssignUlUsage::Traffic(chan) => enums::traffic_refusal(chan),
+    // Why a usage is not written, or 0.
+    pub fn usage_refusal(self) -> u8
+        ensures { result ≡ ul_refusal self }
+    {
+        match self {
+            AccessAssignUlUsage::CommonOnly => refusal::USAGE_MARKER,
+            AccessAssignUlUsage::CommonAndAssigned => refusal::USAGE_MARKER,
+            AccessAssignUlUsage::AssignedOnly => refusal::USAGE_MARKER,
+            AccessAssignUlUsage::Unallocated => 0,
+            AccessAssignUlUsage::Traffic(chan) => enums::traffic_refusal(chan),
+        }
     }
 }

@@ -3,7 +3,9 @@ ghost use Rattle.std.specs.Prelude.{◌≡◌, ◌<◌};
 ghost use Rattle.tetra_fields.specs.BasicSlotgrant.{cap_alloc_number, cap_alloc_of, cap_alloc_case, granted_slots, cap_alloc_for};
 
 use crate::enums::reservation_requirement;
-use crate::enums::reservation_requirement::ReqSlotcount;
+use crate::enums::reservation_requirement::{ReqSlotcount, ReservationRequirement};
+use codec::cases;
+use codec::cases::NoCase;
 
 #[derive(Clone, Copy)]
 pub enum BasicSlotgrantCapAlloc {
@@ -33,60 +35,73 @@ pub enum GrantedSlots {
     SecondSubslot,
 }
 
-// The case of a field's bits, the low 4 of v.
-pub fn from_raw(v: u64) -> BasicSlotgrantCapAlloc
-    ensures { result ≡ cap_alloc_of v }
-{
-    match v % 16 {
-        0 => BasicSlotgrantCapAlloc::FirstSubslotGranted,
-        1 => BasicSlotgrantCapAlloc::Grant1Slot,
-        2 => BasicSlotgrantCapAlloc::Grant2Slots,
-        3 => BasicSlotgrantCapAlloc::Grant3Slots,
-        4 => BasicSlotgrantCapAlloc::Grant4Slots,
-        5 => BasicSlotgrantCapAlloc::Grant5Slots,
-        6 => BasicSlotgrantCapAlloc::Grant6Slots,
-        7 => BasicSlotgrantCapAlloc::Grant8Slots,
-        8 => BasicSlotgrantCapAlloc::Grant10Slots,
-        9 => BasicSlotgrantCapAlloc::Grant13Slots,
-        10 => BasicSlotgrantCapAlloc::Grant17Slots,
-        11 => BasicSlotgrantCapAlloc::Grant24Slots,
-        12 => BasicSlotgrantCapAlloc::Grant34Slots,
-        13 => BasicSlotgrantCapAlloc::Grant51Slots,
-        14 => BasicSlotgrantCapAlloc::Grant68Slots,
-        _ => BasicSlotgrantCapAlloc::SecondSubslotGranted,
+impl BasicSlotgrantCapAlloc {
+    // The case of a field's bits, the low 4 of v.
+    #[tactic(auto, unfolding(crate::specs::BasicSlotgrant::cap_alloc_of))]
+    pub fn from_raw(v: u64) -> BasicSlotgrantCapAlloc
+        ensures { result ≡ cap_alloc_of v }
+    {
+        match v % 16 {
+            0 => BasicSlotgrantCapAlloc::FirstSubslotGranted,
+            1 => BasicSlotgrantCapAlloc::Grant1Slot,
+            2 => BasicSlotgrantCapAlloc::Grant2Slots,
+            3 => BasicSlotgrantCapAlloc::Grant3Slots,
+            4 => BasicSlotgrantCapAlloc::Grant4Slots,
+            5 => BasicSlotgrantCapAlloc::Grant5Slots,
+            6 => BasicSlotgrantCapAlloc::Grant6Slots,
+            7 => BasicSlotgrantCapAlloc::Grant8Slots,
+            8 => BasicSlotgrantCapAlloc::Grant10Slots,
+            9 => BasicSlotgrantCapAlloc::Grant13Slots,
+            10 => BasicSlotgrantCapAlloc::Grant17Slots,
+            11 => BasicSlotgrantCapAlloc::Grant24Slots,
+            12 => BasicSlotgrantCapAlloc::Grant34Slots,
+            13 => BasicSlotgrantCapAlloc::Grant51Slots,
+            14 => BasicSlotgrantCapAlloc::Grant68Slots,
+            _ => BasicSlotgrantCapAlloc::SecondSubslotGranted,
+        }
+    }
+
+    // The number of a case.
+    pub fn into_raw(self) -> u64
+        ensures { (result ≡ cap_alloc_number self) × (result < 16) }
+    {
+        match self {
+            BasicSlotgrantCapAlloc::FirstSubslotGranted => 0,
+            BasicSlotgrantCapAlloc::Grant1Slot => 1,
+            BasicSlotgrantCapAlloc::Grant2Slots => 2,
+            BasicSlotgrantCapAlloc::Grant3Slots => 3,
+            BasicSlotgrantCapAlloc::Grant4Slots => 4,
+            BasicSlotgrantCapAlloc::Grant5Slots => 5,
+            BasicSlotgrantCapAlloc::Grant6Slots => 6,
+            BasicSlotgrantCapAlloc::Grant8Slots => 7,
+            BasicSlotgrantCapAlloc::Grant10Slots => 8,
+            BasicSlotgrantCapAlloc::Grant13Slots => 9,
+            BasicSlotgrantCapAlloc::Grant17Slots => 10,
+            BasicSlotgrantCapAlloc::Grant24Slots => 11,
+            BasicSlotgrantCapAlloc::Grant34Slots => 12,
+            BasicSlotgrantCapAlloc::Grant51Slots => 13,
+            BasicSlotgrantCapAlloc::Grant68Slots => 14,
+            BasicSlotgrantCapAlloc::SecondSubslotGranted => 15,
+        }
     }
 }
 
 // The case of a number; above 15 there is none.
-pub fn try_from(v: u64) -> Option<BasicSlotgrantCapAlloc>
-    ensures { result ≡ cap_alloc_case v }
-{
-    if 15 < v {
-        return None;
+impl TryFrom<u64> for BasicSlotgrantCapAlloc {
+    type Error = NoCase;
+
+    ghost try_from_gives = { λ v r. r ≡ cap_alloc_case v };
+
+    fn try_from(v: u64) -> Result<BasicSlotgrantCapAlloc, NoCase> {
+        Ok(BasicSlotgrantCapAlloc::from_raw(cases::up_to(v, 15)?))
     }
-    Some(from_raw(v))
 }
 
-pub fn into_raw(a: BasicSlotgrantCapAlloc) -> u64
-    ensures { (result ≡ cap_alloc_number a) × (result < 16) }
-{
-    match a {
-        BasicSlotgrantCapAlloc::FirstSubslotGranted => 0,
-        BasicSlotgrantCapAlloc::Grant1Slot => 1,
-        BasicSlotgrantCapAlloc::Grant2Slots => 2,
-        BasicSlotgrantCapAlloc::Grant3Slots => 3,
-        BasicSlotgrantCapAlloc::Grant4Slots => 4,
-        BasicSlotgrantCapAlloc::Grant5Slots => 5,
-        BasicSlotgrantCapAlloc::Grant6Slots => 6,
-        BasicSlotgrantCapAlloc::Grant8Slots => 7,
-        BasicSlotgrantCapAlloc::Grant10Slots => 8,
-        BasicSlotgrantCapAlloc::Grant13Slots => 9,
-        BasicSlotgrantCapAlloc::Grant17Slots => 10,
-        BasicSlotgrantCapAlloc::Grant24Slots => 11,
-        BasicSlotgrantCapAlloc::Grant34Slots => 12,
-        BasicSlotgrantCapAlloc::Grant51Slots => 13,
-        BasicSlotgrantCapAlloc::Grant68Slots => 14,
-        BasicSlotgrantCapAlloc::SecondSubslotGranted => 15,
+impl From<BasicSlotgrantCapAlloc> for u64 {
+    ghost from_gives = { λ a n. n ≡ cap_alloc_number a };
+
+    fn from(a: BasicSlotgrantCapAlloc) -> u64 {
+        a.into_raw()
     }
 }
 
@@ -102,13 +117,13 @@ pub fn from_req_slotcount(req: usize) -> Option<BasicSlotgrantCapAlloc>
         return None;
     }
     let asked = reservation_requirement::from_req_slotcount(req);
-    Some(from_raw(reservation_requirement::into_raw(asked)))
+    Some(BasicSlotgrantCapAlloc::from_raw(asked.into_raw()))
 }
 
 pub fn to_req_slotcount(a: BasicSlotgrantCapAlloc) -> GrantedSlots
     ensures { result ≡ granted_slots a }
 {
-    let asked = reservation_requirement::from_raw(into_raw(a));
+    let asked = ReservationRequirement::from_raw(a.into_raw());
     match reservation_requirement::to_req_slotcount(asked) {
         ReqSlotcount::Subslot => GrantedSlots::FirstSubslot,
         ReqSlotcount::Slots(n) => GrantedSlots::Slots(n),

@@ -2,6 +2,9 @@
 ghost use Rattle.std.specs.Prelude.{◌≡◌, ◌<◌};
 ghost use Rattle.tetra_fields.specs.ReservationRequirement.{reservation_number, reservation_of, reservation_case, reservation_for, slotcount};
 
+use codec::cases;
+use codec::cases::NoCase;
+
 #[derive(Clone, Copy)]
 pub enum ReservationRequirement {
     Req1Subslot,
@@ -30,64 +33,78 @@ pub enum ReqSlotcount {
     Over68,
 }
 
-// The case of a field's bits, the low 4 of v.
-pub fn from_raw(v: u64) -> ReservationRequirement
-    ensures { result ≡ reservation_of v }
-{
-    match v % 16 {
-        0 => ReservationRequirement::Req1Subslot,
-        1 => ReservationRequirement::Req1Slot,
-        2 => ReservationRequirement::Req2Slots,
-        3 => ReservationRequirement::Req3Slots,
-        4 => ReservationRequirement::Req4Slots,
-        5 => ReservationRequirement::Req5Slots,
-        6 => ReservationRequirement::Req6Slots,
-        7 => ReservationRequirement::Req8Slots,
-        8 => ReservationRequirement::Req10Slots,
-        9 => ReservationRequirement::Req13Slots,
-        10 => ReservationRequirement::Req17Slots,
-        11 => ReservationRequirement::Req24Slots,
-        12 => ReservationRequirement::Req34Slots,
-        13 => ReservationRequirement::Req51Slots,
-        14 => ReservationRequirement::Req68Slots,
-        _ => ReservationRequirement::ReqOver68,
+impl ReservationRequirement {
+    // The case of a field's bits, the low 4 of v.
+    #[tactic(auto, unfolding(crate::specs::ReservationRequirement::reservation_of))]
+    pub fn from_raw(v: u64) -> ReservationRequirement
+        ensures { result ≡ reservation_of v }
+    {
+        match v % 16 {
+            0 => ReservationRequirement::Req1Subslot,
+            1 => ReservationRequirement::Req1Slot,
+            2 => ReservationRequirement::Req2Slots,
+            3 => ReservationRequirement::Req3Slots,
+            4 => ReservationRequirement::Req4Slots,
+            5 => ReservationRequirement::Req5Slots,
+            6 => ReservationRequirement::Req6Slots,
+            7 => ReservationRequirement::Req8Slots,
+            8 => ReservationRequirement::Req10Slots,
+            9 => ReservationRequirement::Req13Slots,
+            10 => ReservationRequirement::Req17Slots,
+            11 => ReservationRequirement::Req24Slots,
+            12 => ReservationRequirement::Req34Slots,
+            13 => ReservationRequirement::Req51Slots,
+            14 => ReservationRequirement::Req68Slots,
+            _ => ReservationRequirement::ReqOver68,
+        }
+    }
+
+    // The number of a case.
+    pub fn into_raw(self) -> u64
+        ensures { (result ≡ reservation_number self) × (result < 16) }
+    {
+        match self {
+            ReservationRequirement::Req1Subslot => 0,
+            ReservationRequirement::Req1Slot => 1,
+            ReservationRequirement::Req2Slots => 2,
+            ReservationRequirement::Req3Slots => 3,
+            ReservationRequirement::Req4Slots => 4,
+            ReservationRequirement::Req5Slots => 5,
+            ReservationRequirement::Req6Slots => 6,
+            ReservationRequirement::Req8Slots => 7,
+            ReservationRequirement::Req10Slots => 8,
+            ReservationRequirement::Req13Slots => 9,
+            ReservationRequirement::Req17Slots => 10,
+            ReservationRequirement::Req24Slots => 11,
+            ReservationRequirement::Req34Slots => 12,
+            ReservationRequirement::Req51Slots => 13,
+            ReservationRequirement::Req68Slots => 14,
+            ReservationRequirement::ReqOver68 => 15,
+        }
     }
 }
 
 // The case of a number; above 15 there is none.
-pub fn try_from(v: u64) -> Option<ReservationRequirement>
-    ensures { result ≡ reservation_case v }
-{
-    if 15 < v {
-        return None;
+impl TryFrom<u64> for ReservationRequirement {
+    type Error = NoCase;
+
+    ghost try_from_gives = { λ v r. r ≡ reservation_case v };
+
+    fn try_from(v: u64) -> Result<ReservationRequirement, NoCase> {
+        Ok(ReservationRequirement::from_raw(cases::up_to(v, 15)?))
     }
-    Some(from_raw(v))
 }
 
-pub fn into_raw(a: ReservationRequirement) -> u64
-    ensures { (result ≡ reservation_number a) × (result < 16) }
-{
-    match a {
-        ReservationRequirement::Req1Subslot => 0,
-        ReservationRequirement::Req1Slot => 1,
-        ReservationRequirement::Req2Slots => 2,
-        ReservationRequirement::Req3Slots => 3,
-        ReservationRequirement::Req4Slots => 4,
-        ReservationRequirement::Req5Slots => 5,
-        ReservationRequirement::Req6Slots => 6,
-        ReservationRequirement::Req8Slots => 7,
-        ReservationRequirement::Req10Slots => 8,
-        ReservationRequirement::Req13Slots => 9,
-        ReservationRequirement::Req17Slots => 10,
-        ReservationRequirement::Req24Slots => 11,
-        ReservationRequirement::Req34Slots => 12,
-        ReservationRequirement::Req51Slots => 13,
-        ReservationRequirement::Req68Slots => 14,
-        ReservationRequirement::ReqOver68 => 15,
+impl From<ReservationRequirement> for u64 {
+    ghost from_gives = { λ a n. n ≡ reservation_number a };
+
+    fn from(a: ReservationRequirement) -> u64 {
+        a.into_raw()
     }
 }
 
 // The least case that is enough for req slots, 0 for one subslot.
+#[tactic(auto, unfolding(crate::specs::ReservationRequirement::reservation_for))]
 pub fn from_req_slotcount(req: usize) -> ReservationRequirement
     ensures { result ≡ reservation_for req }
 {

@@ -7,9 +7,6 @@ ghost use Rattle.tetra_fields.specs.BasicSlotgrant.{slotgrant_size, read_slotgra
 
 use crate::enums::basic_slotgrant_cap_alloc::BasicSlotgrantCapAlloc;
 use crate::enums::basic_slotgrant_granting_delay::BasicSlotgrantGrantingDelay;
-use crate::enums::{
-    basic_slotgrant_cap_alloc as cap_alloc, basic_slotgrant_granting_delay as granting_delay,
-};
 use codec::encoded::Encoded;
 use codec::header::Header;
 use codec::piece::Piece;
@@ -40,8 +37,8 @@ pub fn read_slotgrant(a: Ahead) -> Result<(Ahead, BasicSlotgrant), Refusal>
     }
     let x = codec::next_bits(a, SIZE);
     let grant = BasicSlotgrant {
-        capacity_allocation: cap_alloc::from_raw(x / CAPACITY % 16),
-        granting_delay: granting_delay::from_raw(x % 16),
+        capacity_allocation: BasicSlotgrantCapAlloc::from_raw(x / CAPACITY % 16),
+        granting_delay: BasicSlotgrantGrantingDelay::from_raw(x % 16),
     };
     Ok((codec::advance(a, SIZE), grant))
 }
@@ -90,7 +87,7 @@ pub fn slotgrant_word(g: BasicSlotgrant) -> u64
 {
     let capacity = g.capacity_allocation;
     let delay = g.granting_delay;
-    cap_alloc::into_raw(capacity) * CAPACITY + granting_delay::into_raw(delay)
+    capacity.into_raw() * CAPACITY + delay.into_raw()
 }
 
 // A slot grant on its way to being written.

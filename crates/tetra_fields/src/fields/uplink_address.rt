@@ -28,6 +28,7 @@ pub fn uplink_width(kind: u64) -> usize
 }
 
 // The address of this type with the number v.
+#[tactic(auto, unfolding(crate::specs::UplinkAddress::uplink_of))]
 fn uplink_of(kind: u64, v: u64) -> UplinkAddress
     requires { v < 2 ^ uplink_width kind }
     ensures { result ≡ uplink_of kind v }

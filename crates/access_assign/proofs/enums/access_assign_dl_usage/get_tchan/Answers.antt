@@ -1,4 +1,0 @@
-use Rattle.access_assign.proofs.enums.access_assign_dl_usage.get_tchan.Goals as goal
-
-pub returns-in-Traffic : goal.returns-in-Traffic
-returns-in-Traffic c = rw c.in-Traffic.is

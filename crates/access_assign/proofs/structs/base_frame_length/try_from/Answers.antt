@@ -1,8 +1,0 @@
-use borrow.Author.Tests.{le-leb, lt-leb}
-use Rattle.access_assign.proofs.structs.base_frame_length.try_from.Goals as goal
-
-pub returns-then-v-gt15 : goal.returns-then-v-gt15
-returns-then-v-gt15 c = rw (lt-leb _ _ c.if-v-gt15.true)
-
-pub returns : goal.returns
-returns c = rw (le-leb _ _ c.if-v-gt15.false, c.from_raw.ensures)
