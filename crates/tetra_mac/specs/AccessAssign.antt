@@ -1,9 +1,8 @@
 -- The ACCESS-ASSIGN as a record of 5 words: header 0 to 3; field one: a, b; field two: a, b. An access field is access code 0 to 3 and base frame
 -- length code 0 to 15; a downlink usage is kind (0 Unallocated, 1 AssignedControl, 2 CommonControl, 3 CommonAndAssigned, 4 Traffic) and traffic
 -- number; an uplink usage is kind (0 CommonOnly, 1 CommonAndAssigned, 2 AssignedOnly, 3 Unallocated, 4 Traffic) and traffic number.
-use Rattle.std.specs.Prelude.{ℕ, min, List, [], ◌∷◌, ◌++◌, Bool, false, cond, ◌&&◌, length, get_or, eqb, leb, ltb, Err, Ok, Result, Option}
+use Rattle.std.specs.Prelude.{ℕ, min, List, [], ◌∷◌, ◌++◌, Bool, false, cond, ◌&&◌, length, get_or, eqb, leb, ltb, Option}
 use Rattle.tetra_core.specs.declared.bitbuffer.Cursor.{Cursor}
-use Rattle.tetra_core.specs.declared.refusal.Refusal.{Refusal}
 use Rattle.access_assign.specs.AccessField.{access_code_number, access_code_of, base_frame_length_number, base_frame_length_of}
 use Rattle.access_assign.specs.AccessAssign.{access_assign_at, access_assign_write, access_assign_written}
 use Rattle.access_assign.specs.declared.structs.access_field.AccessField.{AccessField}
@@ -13,7 +12,7 @@ use Rattle.access_assign.specs.declared.enums.access_assign_ul_usage.AccessAssig
 use Rattle.access_assign.specs.declared.enums.access_assign_ul_usage.AccessAssignUlUsage.TheVariants as Ul'
 use Rattle.access_assign.specs.declared.access_assign.AccessAssign.{AccessAssign}
 use Rattle.access_assign.specs.declared.access_assign.AccessAssign.TheVariants.{DownlinkCommonControlUplinkCommonOnly, DownlinkDefinedUplinkCommonAndAssigned, DownlinkDefinedUplinkAssignedOnly, DownlinkDefinedUplinkDefined}
-use Rattle.tetra_mac.specs.Reply.{Reply, WriteReply, given_reply, denied_reply, read_reply, write_reply, value_if, word}
+use Rattle.tetra_mac.specs.Reply.{Reply, WriteReply, header_read_reply, write_reply, value_if, word}
 
 -- ---- the words of an ACCESS-ASSIGN
 
@@ -113,12 +112,8 @@ access_assign_of_words ws = value_if (access_assign_known ws) (access_assign_val
 
 -- ---- the calls
 
-abbrev pub access_assign_reply : List ℕ → ℕ → Result AccessAssign Refusal → Reply
-access_assign_reply out at (Ok h) = given_reply out at (access_assign_words h)
-access_assign_reply out at (Err r) = denied_reply out at r
-
 abbrev pub access_assign_read_reply : List ℕ → Cursor → List ℕ → Reply
-access_assign_read_reply s c out = read_reply access_assign_reply 6 (access_assign_at s c).cursor.pos (access_assign_at s c).answer out
+access_assign_read_reply s c out = header_read_reply access_assign_words 6 (access_assign_at s c) out
 
 abbrev pub access_assign_write_reply : List ℕ → Cursor → List ℕ → List ℕ → WriteReply
 access_assign_write_reply s c ws out = write_reply (access_assign_write s c) (access_assign_written s c) s (access_assign_of_words ws) out

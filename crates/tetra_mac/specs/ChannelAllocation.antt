@@ -4,11 +4,10 @@ use Rattle.std.specs.Prelude.{ℕ, min, List, [], ◌∷◌, Bool, cond, ◌&&�
 use Rattle.bits.specs.Bits.{digit}
 use Rattle.tetra_core.specs.declared.bitbuffer.Cursor.{Cursor}
 use Rattle.tetra_core.specs.declared.quantity.Bits.{Bits}
-use Rattle.tetra_core.specs.declared.refusal.Refusal.{Refusal}
 use Rattle.codec.specs.Cases.{flag}
 use Rattle.channel_allocation.specs.ChannelAllocation.{alloc_type_number, alloc_type_of, ul_dl_number, ul_dl_of, timeslots_number, timeslots_of, frame18_number, channel_allocation_at, channel_allocation_write, channel_allocation_written, compute_len}
 use Rattle.channel_allocation.specs.declared.channel_allocation.ChanAllocElement.{ChanAllocElement}
-use Rattle.tetra_mac.specs.Reply.{Reply, WriteReply, given_reply, denied_reply, counted_reply, replied, read_reply, write_reply, record_reply, value_if, word}
+use Rattle.tetra_mac.specs.Reply.{Reply, WriteReply, counted_reply, replied, header_read_reply, write_reply, record_reply, value_if, word}
 
 -- ---- the words of a channel allocation
 
@@ -55,13 +54,8 @@ channel_allocation_of_words ws = value_if (channel_allocation_known ws) (channel
 
 -- ---- the calls
 
-abbrev pub channel_allocation_reply : List ℕ → ℕ → Result ChanAllocElement Refusal → Reply
-channel_allocation_reply out at (Ok e) = given_reply out at (channel_allocation_words e)
-channel_allocation_reply out at (Err r) = denied_reply out at r
-
 abbrev pub channel_allocation_read_reply : List ℕ → Cursor → List ℕ → Reply
-channel_allocation_read_reply s c out =
-    read_reply channel_allocation_reply 10 (channel_allocation_at s c).cursor.pos (channel_allocation_at s c).answer out
+channel_allocation_read_reply s c out = header_read_reply channel_allocation_words 10 (channel_allocation_at s c) out
 
 abbrev pub channel_allocation_write_reply : List ℕ → Cursor → List ℕ → List ℕ → WriteReply
 channel_allocation_write_reply s c ws out =

@@ -1,10 +1,9 @@
 -- The MAC-ACCESS as a record of 8 words: fill bits, encrypted, address type 0 to 3, SSI kind, address number, option (0 none, 1 length, 2
 -- capacity request), length or fragment flag, reservation code 0 to 15.
-use Rattle.std.specs.Prelude.{ℕ, min, List, [], ◌∷◌, Bool, true, false, ◌&&◌, length, get_or, leb, ltb, Err, Ok, Result, Option}
+use Rattle.std.specs.Prelude.{ℕ, min, List, [], ◌∷◌, Bool, true, false, ◌&&◌, length, get_or, leb, ltb, Option}
 use Rattle.tetra_core.specs.Address.{uplink_address_type}
 use Rattle.bits.specs.Bits.{digit}
 use Rattle.tetra_core.specs.declared.bitbuffer.Cursor.{Cursor}
-use Rattle.tetra_core.specs.declared.refusal.Refusal.{Refusal}
 use Rattle.codec.specs.Cases.{flag}
 use Rattle.tetra_fields.specs.ReservationRequirement.{reservation_number, reservation_of}
 use Rattle.tetra_fields.specs.UplinkAddress.{uplink_number}
@@ -12,7 +11,7 @@ use Rattle.mac_access.specs.MacAccess.{mac_access_at, mac_access_write, mac_acce
 use Rattle.mac_access.specs.declared.mac_access.MacAccessOption.{MacAccessOption}
 use Rattle.mac_access.specs.declared.mac_access.MacAccessOption.TheVariants.{Without, LengthInd, CapacityRequest}
 use Rattle.mac_access.specs.declared.mac_access.MacAccess.{MacAccess}
-use Rattle.tetra_mac.specs.Reply.{Reply, WriteReply, given_reply, denied_reply, read_reply, write_reply, value_if, word}
+use Rattle.tetra_mac.specs.Reply.{Reply, WriteReply, header_read_reply, write_reply, value_if, word}
 use Rattle.tetra_mac.specs.Address.{uplink_kind, uplink_known, uplink_value}
 
 -- ---- the words of a MAC-ACCESS
@@ -77,12 +76,8 @@ mac_access_of_words ws = value_if (mac_access_known ws) (mac_access_value ws)
 
 -- ---- the calls
 
-abbrev pub mac_access_reply : List ℕ → ℕ → Result MacAccess Refusal → Reply
-mac_access_reply out at (Ok h) = given_reply out at (mac_access_words h)
-mac_access_reply out at (Err r) = denied_reply out at r
-
 abbrev pub mac_access_read_reply : List ℕ → Cursor → List ℕ → Reply
-mac_access_read_reply s c out = read_reply mac_access_reply 9 (mac_access_at s c).cursor.pos (mac_access_at s c).answer out
+mac_access_read_reply s c out = header_read_reply mac_access_words 9 (mac_access_at s c) out
 
 abbrev pub mac_access_write_reply : List ℕ → Cursor → List ℕ → List ℕ → WriteReply
 mac_access_write_reply s c ws out = write_reply (mac_access_write s c) (mac_access_written s c) s (mac_access_of_words ws) out

@@ -1,7 +1,6 @@
 -- The MAC-DATA as a record of 8 words: that of a MAC-ACCESS with the same address and option, which is 1 or 2.
-use Rattle.std.specs.Prelude.{ℕ, List, Bool, ◌&&◌, Err, Ok, Result, Option}
+use Rattle.std.specs.Prelude.{ℕ, List, Bool, ◌&&◌, Option}
 use Rattle.tetra_core.specs.declared.bitbuffer.Cursor.{Cursor}
-use Rattle.tetra_core.specs.declared.refusal.Refusal.{Refusal}
 use Rattle.codec.specs.Cases.{flag}
 use Rattle.mac_access.specs.declared.mac_access.MacAccess.{MacAccess}
 use Rattle.mac_access.specs.declared.mac_access.MacAccessOption.{MacAccessOption}
@@ -10,7 +9,7 @@ use Rattle.mac_data.specs.MacData.{mac_data_at, mac_data_write, mac_data_written
 use Rattle.mac_data.specs.declared.mac_data.MacData.{MacData}
 use Rattle.mac_data.specs.declared.mac_data.MacDataOption.{MacDataOption}
 use Rattle.mac_data.specs.declared.mac_data.MacDataOption.TheVariants as Data'
-use Rattle.tetra_mac.specs.Reply.{Reply, WriteReply, given_reply, denied_reply, read_reply, write_reply, value_if, word}
+use Rattle.tetra_mac.specs.Reply.{Reply, WriteReply, header_read_reply, write_reply, value_if, word}
 use Rattle.tetra_mac.specs.MacAccess.{mac_access_words, mac_access_known, mac_access_value}
 
 abbrev pub access_option : MacDataOption → MacAccessOption
@@ -42,12 +41,8 @@ mac_data_of_words ws = value_if (mac_data_known ws) (as_data (mac_access_value w
 
 -- ---- the calls
 
-abbrev pub mac_data_reply : List ℕ → ℕ → Result MacData Refusal → Reply
-mac_data_reply out at (Ok h) = given_reply out at (mac_data_words h)
-mac_data_reply out at (Err r) = denied_reply out at r
-
 abbrev pub mac_data_read_reply : List ℕ → Cursor → List ℕ → Reply
-mac_data_read_reply s c out = read_reply mac_data_reply 9 (mac_data_at s c).cursor.pos (mac_data_at s c).answer out
+mac_data_read_reply s c out = header_read_reply mac_data_words 9 (mac_data_at s c) out
 
 abbrev pub mac_data_write_reply : List ℕ → Cursor → List ℕ → List ℕ → WriteReply
 mac_data_write_reply s c ws out = write_reply (mac_data_write s c) (mac_data_written s c) s (mac_data_of_words ws) out

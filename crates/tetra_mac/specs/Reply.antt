@@ -4,6 +4,7 @@ use Rattle.std.specs.Prelude.{ℕ, ◌+◌, ◌*◌, List, [], ◌∷◌, Bool, 
 use Rattle.std.proofs.lemmas.List.Edits.{sets}
 use Rattle.tetra_core.specs.declared.bitbuffer.Cursor.{Cursor}
 use Rattle.tetra_core.specs.declared.bitbuffer.Moved.{Moved}
+use Rattle.tetra_core.specs.declared.bitbuffer.Read.{Read}
 use Rattle.tetra_core.specs.declared.refusal.Refusal.{Refusal}
 
 -- a status, and out as the call leaves it
@@ -58,6 +59,15 @@ malformed = 255
 
 unfoldable pub read_reply : {B : Type 0} → (List ℕ → ℕ → B → Reply) → ℕ → ℕ → B → List ℕ → Reply
 read_reply reply n at answer out = cond (leb n (length out)) (reply out at answer) (replied malformed out)
+
+-- by the words of what was read, or by the refusal
+abbrev pub answer_reply : {A : Type 0} → (A → List ℕ) → List ℕ → ℕ → Result A Refusal → Reply
+answer_reply words out at (Ok v) = given_reply out at (words v)
+answer_reply words out at (Err r) = denied_reply out at r
+
+-- a call that reads a header, which leaves the cursor and the header's words
+abbrev pub header_read_reply : {A : Type 0} → (A → List ℕ) → ℕ → Read A → List ℕ → Reply
+header_read_reply words n done out = read_reply (answer_reply words) n done.cursor.pos done.answer out
 
 -- ---- a call that writes the value of a record, if it has one
 

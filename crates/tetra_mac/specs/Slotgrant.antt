@@ -1,13 +1,12 @@
 -- The slot grant as a record of 3 words: capacity code 0 to 15; delay kind (0 next opportunity, 1 count, 2 frame 18, 3 wait); delay count
 -- (only for kind 1, read as 0 otherwise).
-use Rattle.std.specs.Prelude.{ℕ, min, List, [], ◌∷◌, Bool, ◌&&◌, length, get_or, leb, Err, Ok, Result, Option}
+use Rattle.std.specs.Prelude.{ℕ, min, List, [], ◌∷◌, Bool, ◌&&◌, length, get_or, leb, Option}
 use Rattle.tetra_core.specs.declared.bitbuffer.Cursor.{Cursor}
-use Rattle.tetra_core.specs.declared.refusal.Refusal.{Refusal}
 use Rattle.tetra_fields.specs.BasicSlotgrant.{cap_alloc_number, cap_alloc_of, slotgrant_at, slotgrant_write, slotgrant_written}
 use Rattle.tetra_fields.specs.declared.enums.basic_slotgrant_granting_delay.BasicSlotgrantGrantingDelay.{BasicSlotgrantGrantingDelay}
 use Rattle.tetra_fields.specs.declared.enums.basic_slotgrant_granting_delay.BasicSlotgrantGrantingDelay.TheVariants.{CapAllocAtNextOpportunity, DelayNOpportunities, AllocStartsAtOpportunityInFr18, WaitForAnotherSlotgrantMessage}
 use Rattle.tetra_fields.specs.declared.fields.basic_slotgrant.BasicSlotgrant.{BasicSlotgrant}
-use Rattle.tetra_mac.specs.Reply.{Reply, WriteReply, given_reply, denied_reply, read_reply, write_reply, value_if, word}
+use Rattle.tetra_mac.specs.Reply.{Reply, WriteReply, header_read_reply, write_reply, value_if, word}
 
 -- ---- the words of a slot grant
 
@@ -46,12 +45,8 @@ slotgrant_of_words ws = value_if (slotgrant_known ws) (slotgrant_value ws)
 
 -- ---- the calls
 
-abbrev pub slotgrant_reply : List ℕ → ℕ → Result BasicSlotgrant Refusal → Reply
-slotgrant_reply out at (Ok g) = given_reply out at (slotgrant_words g)
-slotgrant_reply out at (Err r) = denied_reply out at r
-
 abbrev pub slotgrant_read_reply : List ℕ → Cursor → List ℕ → Reply
-slotgrant_read_reply s c out = read_reply slotgrant_reply 4 (slotgrant_at s c).cursor.pos (slotgrant_at s c).answer out
+slotgrant_read_reply s c out = header_read_reply slotgrant_words 4 (slotgrant_at s c) out
 
 abbrev pub slotgrant_write_reply : List ℕ → Cursor → List ℕ → List ℕ → WriteReply
 slotgrant_write_reply s c ws out = write_reply (slotgrant_write s c) (slotgrant_written s c) s (slotgrant_of_words ws) out

@@ -1,12 +1,15 @@
 // The MAC-ACCESS as a record of 8 words: fill bits, encrypted, address type, SSI kind, address number, option, length or fragment flag,
 // reservation code.
 ghost use Rattle.std.specs.Prelude.{◌≡◌, ◌≤◌, length};
+ghost use Rattle.mac_access.specs.MacAccess.{mac_access_write, mac_access_written};
 ghost use Rattle.tetra_mac.specs.Reply.{replied, wrote, window};
 ghost use Rattle.tetra_mac.specs.MacAccess.{option_kind, option_first, option_reservation, option_known, option_value, mac_access_words, mac_access_known, mac_access_value, mac_access_read_reply, mac_access_write_reply};
+ghost use Rattle.tetra_mac.specs.Laws.MacAccess.{mac_access_long, mac_access_placed};
 
+use crate::record::Record;
 use crate::{address, record};
 use mac_access::mac_access::{MacAccess, MacAccessOption};
-use tetra_core::bitbuffer::Cursor;
+use tetra_core::bitbuffer::{Cursor, Moved};
 use tetra_fields::enums::reservation_requirement::ReservationRequirement;
 use tetra_fields::fields::uplink_address;
 
@@ -27,9 +30,7 @@ const OPTION_FIRST: usize = 6;
 
 const RESERVATION: usize = 7;
 
-const WORDS: usize = 8;
-
-pub(crate) const READ_WORDS: usize = WORDS + 1;
+pub(crate) const WORDS: usize = 8;
 
 fn option_kind(o: MacAccessOption) -> u64
     ensures { result ≡ option_kind o }
@@ -131,22 +132,43 @@ pub(crate) fn mac_access_value(words: &[u64]) -> MacAccess
     }
 }
 
+impl Record<WORDS> for MacAccess {
+    ghost words = { mac_access_words };
+
+    ghost known = { mac_access_known };
+
+    ghost value = { mac_access_value };
+
+    ghost write = { mac_access_write };
+
+    ghost written = { mac_access_written };
+
+    fn words(h: MacAccess) -> [u64; WORDS] {
+        mac_access_words(h)
+    }
+
+    fn known(ws: &[u64]) -> bool {
+        mac_access_known(ws)
+    }
+
+    fn value(ws: &[u64]) -> MacAccess {
+        mac_access_value(ws)
+    }
+
+    fn to_bitbuf(s: &mut [u8], c: Cursor, h: MacAccess) -> Moved {
+        mac_access::mac_access::to_bitbuf(s, c, h)
+    }
+
+    ghost long = { mac_access_long };
+
+    ghost placed = { mac_access_placed };
+}
+
+#[tactic(auto, unfolding(mac_access::specs::MacAccess::mac_access_at))]
 pub fn tetra_mac_access_read(s: &[u8], start: usize, pos: usize, end: usize, out: &mut [u64]) -> u64
     ensures { replied result out.new ≡ mac_access_read_reply s.now (window start pos end) out.old }
 {
-    if out.len() < READ_WORDS {
-        return record::MALFORMED;
-    }
-    let done = mac_access::mac_access::from_bitbuf(s, Cursor { start, pos, end });
-    let at = done.cursor.pos;
-    let answer = done.answer;
-    match answer {
-        Ok(h) => {
-            let words = mac_access_words(h);
-            record::give(out, at, &words)
-        }
-        Err(r) => record::deny(out, at, r),
-    }
+    record::read::<WORDS, MacAccess>(s, Cursor { start, pos, end }, out)
 }
 
 pub fn tetra_mac_access_write(
@@ -159,13 +181,5 @@ pub fn tetra_mac_access_write(
 ) -> u64
     ensures { wrote result out.new s.new ≡ mac_access_write_reply s.old (window start pos end) words.now out.old }
 {
-    if out.len() < 1 {
-        return record::MALFORMED;
-    }
-    if !mac_access_known(words) {
-        return record::MALFORMED;
-    }
-    let h = mac_access_value(words);
-    let done = mac_access::mac_access::to_bitbuf(s, Cursor { start, pos, end }, h);
-    record::moved(out, done)
+    record::write::<WORDS, MacAccess>(s, Cursor { start, pos, end }, words, out)
 }

@@ -1,15 +1,18 @@
 // The channel allocation as a record of 9 words: allocation type, timeslots, direction, CLCH permission, cell change, carrier, monitoring
 // pattern, whether there is a frame-18 pattern, frame-18 pattern.
 ghost use Rattle.std.specs.Prelude.{◌≡◌, ◌≤◌, length};
+ghost use Rattle.channel_allocation.specs.ChannelAllocation.{channel_allocation_write, channel_allocation_written};
 ghost use Rattle.tetra_mac.specs.Reply.{replied, wrote, window};
 ghost use Rattle.tetra_mac.specs.ChannelAllocation.{frame18_present, frame18_value, channel_allocation_words, channel_allocation_known, channel_allocation_value, channel_allocation_read_reply, channel_allocation_write_reply, channel_allocation_len_reply};
+ghost use Rattle.tetra_mac.specs.Laws.ChannelAllocation.{channel_allocation-long, channel_allocation-placed};
 
 use crate::record;
+use crate::record::Record;
 use channel_allocation::channel_allocation as allocation;
 use channel_allocation::channel_allocation::ChanAllocElement;
 use channel_allocation::enums::alloc_type::ChanAllocType;
 use channel_allocation::enums::ul_dl_assignment::UlDlAssignment;
-use tetra_core::bitbuffer::Cursor;
+use tetra_core::bitbuffer::{Cursor, Moved};
 
 // The places of the record, and its words; a read has the cursor before them.
 const ALLOC_TYPE: usize = 0;
@@ -31,8 +34,6 @@ const HAS_FRAME_18: usize = 7;
 const FRAME_18_PATTERN: usize = 8;
 
 const WORDS: usize = 9;
-
-const READ_WORDS: usize = WORDS + 1;
 
 fn frame18_present(p: Option<u8>) -> u64
     ensures { result ≡ frame18_present p }
@@ -112,6 +113,39 @@ pub fn channel_allocation_value(words: &[u64]) -> ChanAllocElement
     }
 }
 
+impl Record<WORDS> for ChanAllocElement {
+    ghost words = { channel_allocation_words };
+
+    ghost known = { channel_allocation_known };
+
+    ghost value = { channel_allocation_value };
+
+    ghost write = { channel_allocation_write };
+
+    ghost written = { channel_allocation_written };
+
+    fn words(h: ChanAllocElement) -> [u64; WORDS] {
+        channel_allocation_words(h)
+    }
+
+    fn known(ws: &[u64]) -> bool {
+        channel_allocation_known(ws)
+    }
+
+    fn value(ws: &[u64]) -> ChanAllocElement {
+        channel_allocation_value(ws)
+    }
+
+    fn to_bitbuf(s: &mut [u8], c: Cursor, h: ChanAllocElement) -> Moved {
+        allocation::to_bitbuf(s, c, h)
+    }
+
+    ghost long = { channel_allocation-long };
+
+    ghost placed = { channel_allocation-placed 0 };
+}
+
+#[tactic(auto, unfolding(channel_allocation::specs::ChannelAllocation::channel_allocation_at))]
 pub fn tetra_channel_allocation_read(
     s: &[u8],
     start: usize,
@@ -121,19 +155,7 @@ pub fn tetra_channel_allocation_read(
 ) -> u64
     ensures { replied result out.new ≡ channel_allocation_read_reply s.now (window start pos end) out.old }
 {
-    if out.len() < READ_WORDS {
-        return record::MALFORMED;
-    }
-    let done = allocation::from_bitbuf(s, Cursor { start, pos, end });
-    let at = done.cursor.pos;
-    let answer = done.answer;
-    match answer {
-        Ok(e) => {
-            let words = channel_allocation_words(e);
-            record::give(out, at, &words)
-        }
-        Err(r) => record::deny(out, at, r),
-    }
+    record::read::<WORDS, ChanAllocElement>(s, Cursor { start, pos, end }, out)
 }
 
 pub fn tetra_channel_allocation_write(
@@ -146,15 +168,7 @@ pub fn tetra_channel_allocation_write(
 ) -> u64
     ensures { wrote result out.new s.new ≡ channel_allocation_write_reply s.old (window start pos end) words.now out.old }
 {
-    if out.len() < 1 {
-        return record::MALFORMED;
-    }
-    if !channel_allocation_known(words) {
-        return record::MALFORMED;
-    }
-    let e = channel_allocation_value(words);
-    let done = allocation::to_bitbuf(s, Cursor { start, pos, end }, e);
-    record::moved(out, done)
+    record::write::<WORDS, ChanAllocElement>(s, Cursor { start, pos, end }, words, out)
 }
 
 // The bits that a channel allocation is written as.

@@ -1,17 +1,20 @@
 // The ACCESS-ASSIGN as a record of 5 words: header, and two words for each field. An access field is its access code and its base
 // frame-length code, a usage is its kind and its traffic number.
 ghost use Rattle.std.specs.Prelude.{◌≡◌, [], ◌∷◌, ◌≤◌, length};
+ghost use Rattle.access_assign.specs.AccessAssign.{access_assign_write, access_assign_written};
 ghost use Rattle.tetra_mac.specs.Reply.{replied, wrote, window, word};
 ghost use Rattle.tetra_mac.specs.AccessAssign.{field_words, dl_kind, dl_traffic, dl_words, ul_kind, ul_traffic, ul_words, field_known, field_value, dl_value, ul_value, one_known, two_known, access_assign_words, access_assign_known, access_assign_value, access_assign_read_reply, access_assign_write_reply};
+ghost use Rattle.tetra_mac.specs.Laws.AccessAssign.{access_assign_long, access_assign_placed};
 
 use crate::record;
+use crate::record::Record;
 use access_assign::access_assign::AccessAssign;
 use access_assign::enums::access_assign_dl_usage::AccessAssignDlUsage;
 use access_assign::enums::access_assign_ul_usage::AccessAssignUlUsage;
 use access_assign::enums::access_code::AccessCode;
 use access_assign::structs::access_field::AccessField;
 use access_assign::structs::base_frame_length::BaseFrameLength;
-use tetra_core::bitbuffer::Cursor;
+use tetra_core::bitbuffer::{Cursor, Moved};
 
 // The places of the record, and its words; a read has the cursor before them.
 const HEADER: usize = 0;
@@ -25,8 +28,6 @@ const TWO_FIRST: usize = 3;
 const TWO_SECOND: usize = 4;
 
 const WORDS: usize = 5;
-
-const READ_WORDS: usize = WORDS + 1;
 
 fn field_words(f: AccessField) -> [u64; 2]
     ensures { result ≡ field_words f }
@@ -247,6 +248,39 @@ fn access_assign_value(words: &[u64]) -> AccessAssign
     }
 }
 
+impl Record<WORDS> for AccessAssign {
+    ghost words = { access_assign_words };
+
+    ghost known = { access_assign_known };
+
+    ghost value = { access_assign_value };
+
+    ghost write = { access_assign_write };
+
+    ghost written = { access_assign_written };
+
+    fn words(h: AccessAssign) -> [u64; WORDS] {
+        access_assign_words(h)
+    }
+
+    fn known(ws: &[u64]) -> bool {
+        access_assign_known(ws)
+    }
+
+    fn value(ws: &[u64]) -> AccessAssign {
+        access_assign_value(ws)
+    }
+
+    fn to_bitbuf(s: &mut [u8], c: Cursor, h: AccessAssign) -> Moved {
+        access_assign::access_assign::to_bitbuf(s, c, h)
+    }
+
+    ghost long = { access_assign_long };
+
+    ghost placed = { access_assign_placed };
+}
+
+#[tactic(auto, unfolding(access_assign::specs::AccessAssign::access_assign_at))]
 pub fn tetra_access_assign_read(
     s: &[u8],
     start: usize,
@@ -256,19 +290,7 @@ pub fn tetra_access_assign_read(
 ) -> u64
     ensures { replied result out.new ≡ access_assign_read_reply s.now (window start pos end) out.old }
 {
-    if out.len() < READ_WORDS {
-        return record::MALFORMED;
-    }
-    let done = access_assign::access_assign::from_bitbuf(s, Cursor { start, pos, end });
-    let at = done.cursor.pos;
-    let answer = done.answer;
-    match answer {
-        Ok(h) => {
-            let words = access_assign_words(h);
-            record::give(out, at, &words)
-        }
-        Err(r) => record::deny(out, at, r),
-    }
+    record::read::<WORDS, AccessAssign>(s, Cursor { start, pos, end }, out)
 }
 
 pub fn tetra_access_assign_write(
@@ -281,13 +303,5 @@ pub fn tetra_access_assign_write(
 ) -> u64
     ensures { wrote result out.new s.new ≡ access_assign_write_reply s.old (window start pos end) words.now out.old }
 {
-    if out.len() < 1 {
-        return record::MALFORMED;
-    }
-    if !access_assign_known(words) {
-        return record::MALFORMED;
-    }
-    let h = access_assign_value(words);
-    let done = access_assign::access_assign::to_bitbuf(s, Cursor { start, pos, end }, h);
-    record::moved(out, done)
+    record::write::<WORDS, AccessAssign>(s, Cursor { start, pos, end }, words, out)
 }

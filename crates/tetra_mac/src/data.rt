@@ -1,12 +1,17 @@
 // The MAC-DATA as a record of 8 words: that of a MAC-ACCESS with the same address and option, of which there is always one.
 ghost use Rattle.std.specs.Prelude.{◌≡◌};
+ghost use Rattle.mac_data.specs.MacData.{mac_data_write, mac_data_written};
 ghost use Rattle.tetra_mac.specs.Reply.{replied, wrote, window};
-ghost use Rattle.tetra_mac.specs.MacData.{access_option, data_option, as_access, as_data, mac_data_known, mac_data_read_reply, mac_data_write_reply};
+ghost use Rattle.tetra_mac.specs.MacAccess.{mac_access_value};
+ghost use Rattle.tetra_mac.specs.MacData.{access_option, data_option, as_access, as_data, mac_data_words, mac_data_known, mac_data_read_reply, mac_data_write_reply};
+ghost use Rattle.tetra_mac.specs.Laws.MacData.{mac_data_long, mac_data_placed};
 
+use crate::access::{OPTION, WORDS};
+use crate::record::Record;
 use crate::{access, record};
 use mac_access::mac_access::{MacAccess, MacAccessOption};
 use mac_data::mac_data::{MacData, MacDataOption};
-use tetra_core::bitbuffer::Cursor;
+use tetra_core::bitbuffer::{Cursor, Moved};
 
 fn access_option(o: MacDataOption) -> MacAccessOption
     ensures { result ≡ access_option o }
@@ -61,25 +66,46 @@ fn mac_data_known(words: &[u64]) -> bool
     if !access::mac_access_known(words) {
         return false;
     }
-    words[access::OPTION] != 0
+    words[OPTION] != 0
 }
 
+impl Record<WORDS> for MacData {
+    ghost words = { mac_data_words };
+
+    ghost known = { mac_data_known };
+
+    ghost value = { λ ws. as_data (mac_access_value ws) };
+
+    ghost write = { mac_data_write };
+
+    ghost written = { mac_data_written };
+
+    fn words(h: MacData) -> [u64; WORDS] {
+        access::mac_access_words(as_access(h))
+    }
+
+    fn known(ws: &[u64]) -> bool {
+        mac_data_known(ws)
+    }
+
+    fn value(ws: &[u64]) -> MacData {
+        as_data(access::mac_access_value(ws))
+    }
+
+    fn to_bitbuf(s: &mut [u8], c: Cursor, h: MacData) -> Moved {
+        mac_data::mac_data::to_bitbuf(s, c, h)
+    }
+
+    ghost long = { mac_data_long };
+
+    ghost placed = { mac_data_placed };
+}
+
+#[tactic(auto, unfolding(mac_data::specs::MacData::mac_data_at))]
 pub fn tetra_mac_data_read(s: &[u8], start: usize, pos: usize, end: usize, out: &mut [u64]) -> u64
     ensures { replied result out.new ≡ mac_data_read_reply s.now (window start pos end) out.old }
 {
-    if out.len() < access::READ_WORDS {
-        return record::MALFORMED;
-    }
-    let done = mac_data::mac_data::from_bitbuf(s, Cursor { start, pos, end });
-    let at = done.cursor.pos;
-    let answer = done.answer;
-    match answer {
-        Ok(h) => {
-            let words = access::mac_access_words(as_access(h));
-            record::give(out, at, &words)
-        }
-        Err(r) => record::deny(out, at, r),
-    }
+    record::read::<WORDS, MacData>(s, Cursor { start, pos, end }, out)
 }
 
 pub fn tetra_mac_data_write(
@@ -92,13 +118,5 @@ pub fn tetra_mac_data_write(
 ) -> u64
     ensures { wrote result out.new s.new ≡ mac_data_write_reply s.old (window start pos end) words.now out.old }
 {
-    if out.len() < 1 {
-        return record::MALFORMED;
-    }
-    if !mac_data_known(words) {
-        return record::MALFORMED;
-    }
-    let h = as_data(access::mac_access_value(words));
-    let done = mac_data::mac_data::to_bitbuf(s, Cursor { start, pos, end }, h);
-    record::moved(out, done)
+    record::write::<WORDS, MacData>(s, Cursor { start, pos, end }, words, out)
 }

@@ -1,9 +1,15 @@
 // What every call shares: its status, the words that it puts into out, and numbers cut down to the type of their field.
-ghost use Rattle.std.specs.Prelude.{◌≡◌, ◌+◌, ◌≤◌, ◌<◌, min, length};
+ghost use Rattle.std.specs.Prelude.{ℕ, List, Bool, true, ◌≡◌, ◌+◌, ◌≤◌, ◌<◌, min, length};
 ghost use Rattle.std.proofs.lemmas.List.Edits.{sets};
-ghost use Rattle.tetra_mac.specs.Reply.{replied, status_of, given_reply, denied_reply, moved_reply};
+ghost use Rattle.tetra_core.specs.declared.bitbuffer.Cursor.{Cursor};
+ghost use Rattle.tetra_core.specs.declared.bitbuffer.Moved.{Moved};
+ghost use Rattle.codec.specs.Header.{at_cursor};
+ghost use Rattle.tetra_mac.specs.Reply.{replied, wrote, status_of, given_reply, denied_reply, moved_reply, header_read_reply, write_reply, value_if};
+ghost use Rattle.tetra_mac.specs.Laws.Placed.{Placed};
 
-use tetra_core::bitbuffer::Moved;
+use codec::header;
+use codec::header::Header;
+use tetra_core::bitbuffer::{Cursor, Moved};
 use tetra_core::refusal::Refusal;
 
 // The status of a call whose record or out is too short, or whose record has a code that no case has.
@@ -57,6 +63,80 @@ pub fn moved(out: &mut [u64], m: Moved) -> u64
         Ok(()) => 0,
         Err(number) => number as u64,
     }
+}
+
+// A header that crosses as a record of N words.
+pub trait Record<const N: usize>: Header {
+    ghost words: { Self → List ℕ };
+
+    ghost known: { List ℕ → Bool };
+
+    ghost value: { List ℕ → Self };
+
+    ghost write: { List ℕ → Cursor → Self → Moved };
+
+    ghost written: { List ℕ → Cursor → Self → List ℕ };
+
+    // The words of a header.
+    fn words(h: Self) -> [u64; N]
+        ensures { result ≡ words h };
+
+    // Whether words are long enough and have no unknown code.
+    fn known(ws: &[u64]) -> bool
+        ensures { result ≡ known ws.now };
+
+    // The header of words whose codes are known.
+    fn value(ws: &[u64]) -> Self
+        requires { N ≤ length ws.now }
+        ensures { result ≡ value ws.now };
+
+    // Writes a header at the cursor.
+    fn to_bitbuf(s: &mut [u8], c: Cursor, h: Self) -> Moved
+        ensures { (result ≡ write s.old c h) × (s.new ≡ written s.old c h) };
+
+    ghost long: { (ws : List ℕ) → known ws ≡ true → N ≤ length ws };
+
+    // so the bit of a refused read fits a status
+    ghost placed: { Placed 0 Self.reader };
+}
+
+// Reads a header at the cursor, and gives the cursor's bit and the header's words.
+pub(crate) fn read<const N: usize, T: Record<N>>(s: &[u8], c: Cursor, out: &mut [u64]) -> u64
+    ensures { replied result out.new ≡ header_read_reply T.words (N + 1) (at_cursor T.reader s.now c) out.old }
+{
+    if out.len() <= N {
+        return MALFORMED;
+    }
+    let done = header::from_bitbuf::<T>(s, c);
+    let at = done.cursor.pos;
+    let answer = done.answer;
+    match answer {
+        Ok(h) => {
+            let words = T::words(h);
+            give(out, at, &words)
+        }
+        Err(r) => deny(out, at, r),
+    }
+}
+
+// Writes the header of a record at the cursor, and gives the cursor's bit.
+pub(crate) fn write<const N: usize, T: Record<N>>(
+    s: &mut [u8],
+    c: Cursor,
+    words: &[u64],
+    out: &mut [u64],
+) -> u64
+    ensures { wrote result out.new s.new ≡ write_reply (T.write s.old c) (T.written s.old c) s.old (value_if (T.known words.now) (T.value words.now)) out.old }
+{
+    if out.len() < 1 {
+        return MALFORMED;
+    }
+    if !T::known(words) {
+        return MALFORMED;
+    }
+    let h = T::value(words);
+    let done = T::to_bitbuf(s, c, h);
+    moved(out, done)
 }
 
 // A number for a field of type u8: one too large becomes the largest, which a codec refuses.

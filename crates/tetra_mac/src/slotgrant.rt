@@ -1,10 +1,13 @@
 // The slot grant as a record of 3 words: capacity code, delay kind, delay count.
 ghost use Rattle.std.specs.Prelude.{◌≡◌, ◌≤◌, length};
+ghost use Rattle.tetra_fields.specs.BasicSlotgrant.{slotgrant_write, slotgrant_written};
 ghost use Rattle.tetra_mac.specs.Reply.{replied, wrote, window};
 ghost use Rattle.tetra_mac.specs.Slotgrant.{delay_kind, delay_count, delay_value, slotgrant_words, slotgrant_known, slotgrant_value, slotgrant_read_reply, slotgrant_write_reply};
+ghost use Rattle.tetra_mac.specs.Laws.Slotgrant.{slotgrant_long, slotgrant_placed};
 
 use crate::record;
-use tetra_core::bitbuffer::Cursor;
+use crate::record::Record;
+use tetra_core::bitbuffer::{Cursor, Moved};
 use tetra_fields::enums::basic_slotgrant_cap_alloc::BasicSlotgrantCapAlloc;
 use tetra_fields::enums::basic_slotgrant_granting_delay::BasicSlotgrantGrantingDelay;
 use tetra_fields::fields::basic_slotgrant;
@@ -18,8 +21,6 @@ const DELAY_KIND: usize = 1;
 const DELAY_COUNT: usize = 2;
 
 const WORDS: usize = 3;
-
-const READ_WORDS: usize = WORDS + 1;
 
 fn delay_kind(d: BasicSlotgrantGrantingDelay) -> u64
     ensures { result ≡ delay_kind d }
@@ -91,22 +92,43 @@ pub fn slotgrant_value(words: &[u64]) -> BasicSlotgrant
     }
 }
 
+impl Record<WORDS> for BasicSlotgrant {
+    ghost words = { slotgrant_words };
+
+    ghost known = { slotgrant_known };
+
+    ghost value = { slotgrant_value };
+
+    ghost write = { slotgrant_write };
+
+    ghost written = { slotgrant_written };
+
+    fn words(h: BasicSlotgrant) -> [u64; WORDS] {
+        slotgrant_words(h)
+    }
+
+    fn known(ws: &[u64]) -> bool {
+        slotgrant_known(ws)
+    }
+
+    fn value(ws: &[u64]) -> BasicSlotgrant {
+        slotgrant_value(ws)
+    }
+
+    fn to_bitbuf(s: &mut [u8], c: Cursor, h: BasicSlotgrant) -> Moved {
+        basic_slotgrant::to_bitbuf(s, c, h)
+    }
+
+    ghost long = { slotgrant_long };
+
+    ghost placed = { slotgrant_placed };
+}
+
+#[tactic(auto, unfolding(tetra_fields::specs::BasicSlotgrant::slotgrant_at))]
 pub fn tetra_slotgrant_read(s: &[u8], start: usize, pos: usize, end: usize, out: &mut [u64]) -> u64
     ensures { replied result out.new ≡ slotgrant_read_reply s.now (window start pos end) out.old }
 {
-    if out.len() < READ_WORDS {
-        return record::MALFORMED;
-    }
-    let done = basic_slotgrant::from_bitbuf(s, Cursor { start, pos, end });
-    let at = done.cursor.pos;
-    let answer = done.answer;
-    match answer {
-        Ok(g) => {
-            let words = slotgrant_words(g);
-            record::give(out, at, &words)
-        }
-        Err(r) => record::deny(out, at, r),
-    }
+    record::read::<WORDS, BasicSlotgrant>(s, Cursor { start, pos, end }, out)
 }
 
 pub fn tetra_slotgrant_write(
@@ -119,13 +141,5 @@ pub fn tetra_slotgrant_write(
 ) -> u64
     ensures { wrote result out.new s.new ≡ slotgrant_write_reply s.old (window start pos end) words.now out.old }
 {
-    if out.len() < 1 {
-        return record::MALFORMED;
-    }
-    if !slotgrant_known(words) {
-        return record::MALFORMED;
-    }
-    let g = slotgrant_value(words);
-    let done = basic_slotgrant::to_bitbuf(s, Cursor { start, pos, end }, g);
-    record::moved(out, done)
+    record::write::<WORDS, BasicSlotgrant>(s, Cursor { start, pos, end }, words, out)
 }

@@ -1,9 +1,10 @@
 -- A reader that refuses only at offsets that it has reached is refused inside the window, so the bit of its refusal fits a status.
 use Rattle.std.specs.Prelude.{ℕ, ◌+◌, ◌≤◌, ◌≡◌, refl, List, Bool, true, false, length, drop, leb, Result, Ok, Err}
 use Rattle.std.proofs.Common.{arith, length-drop, leb-true, leb-false}
-use Rattle.tetra_core.specs.BitBuffer.{good_window, moved}
+use Rattle.tetra_core.specs.BitBuffer.{good_window}
 use Rattle.tetra_core.specs.Laws.Windows.{good_facts}
 use Rattle.tetra_core.specs.declared.bitbuffer.Cursor.{Cursor}
+use Rattle.tetra_core.specs.declared.bitbuffer.Read.{Read}
 use Rattle.tetra_core.specs.declared.refusal.Refusal.{Refusal}
 use Rattle.codec.specs.Reader.{Out, got, refused, Reader, done, refuse, field, here, choose, ◌>>=◌, parse}
 use Rattle.codec.proofs.Laws.Reader.{field-there, field-short}
@@ -62,3 +63,9 @@ bit-within {A} p h s c = go (good_window (length s) c) refl
         let g = good_facts (length s) c e in
         rw e (at (parse p (within s c) 0) (stops p (within s c) 0 65536 h (omega (arith, length-within s c g))))
     go false e = rw e (at (refused 13 0) (omega arith))
+
+pub offset-fits : {A : Type 0} (p : Reader A) → Placed 0 p → (s : List ℕ) (c : Cursor) {d : Read A} {r : Refusal} → d ≡ at_cursor p s c → d.answer ≡ Err r
+    → r.offset ≤ 65536
+offset-fits p h s c e a =
+    let b : refused_bit (at_cursor p s c).answer ≤ 65536 = bit-within p h s c in
+    rw (← e, a) at b

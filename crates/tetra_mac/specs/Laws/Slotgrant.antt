@@ -1,16 +1,13 @@
--- The slot grant's words give it back, and its refusals have a bit that fits a status.
-use Rattle.std.specs.Prelude.{ℕ, min, ◌≤◌, ◌≡◌, refl, List, true, length, Err, Ok, Result, Some}
+-- The slot grant's words give it back, and it is refused only at offsets that were reached.
+use Rattle.std.specs.Prelude.{ℕ, min, ◌≤◌, ◌≡◌, refl, List, true, length, Some}
 use Rattle.std.proofs.Common.{arith, le-leb}
-use Rattle.tetra_core.specs.declared.bitbuffer.Cursor.{Cursor}
-use Rattle.tetra_core.specs.declared.bitbuffer.Read.{Read}
-use Rattle.tetra_core.specs.declared.refusal.Refusal.{Refusal}
-use Rattle.tetra_fields.specs.BasicSlotgrant.{cap_alloc_number, read_slotgrant, slotgrant_at}
+use Rattle.tetra_fields.specs.BasicSlotgrant.{cap_alloc_number, read_slotgrant}
 use Rattle.tetra_fields.specs.Laws.BasicSlotgrant.{cap_alloc_back}
 use Rattle.tetra_fields.specs.declared.enums.basic_slotgrant_granting_delay.BasicSlotgrantGrantingDelay.{BasicSlotgrantGrantingDelay}
 use Rattle.tetra_fields.specs.declared.enums.basic_slotgrant_granting_delay.BasicSlotgrantGrantingDelay.TheVariants.{CapAllocAtNextOpportunity, DelayNOpportunities, AllocStartsAtOpportunityInFr18, WaitForAnotherSlotgrantMessage}
 use Rattle.tetra_fields.specs.declared.fields.basic_slotgrant.BasicSlotgrant.{BasicSlotgrant}
 use Rattle.tetra_mac.specs.Slotgrant.{delay_kind, delay_count, delay_value, slotgrant_words, slotgrant_known, slotgrant_value, slotgrant_of_words}
-use Rattle.tetra_mac.specs.Laws.Placed.{bit-within, refused_bit}
+use Rattle.tetra_mac.specs.Laws.Placed.{Placed}
 use Rattle.tetra_mac.specs.Laws.Reply.{kept, value_known, long-enough}
 
 -- a count of type u8 is kept
@@ -36,9 +33,6 @@ pub slotgrant_long : (ws : List ℕ) → slotgrant_known ws ≡ true → 3 ≤ l
 unfolding slotgrant_known
 slotgrant_long ws e = long-enough 3 ws _ e
 
-pub slotgrant_bit_lem : (s : List ℕ) (c : Cursor) {d : Read BasicSlotgrant} {r : Refusal} → d ≡ slotgrant_at s c → d.answer ≡ Err r → r.offset ≤ 65536
-unfolding slotgrant_at read_slotgrant
-slotgrant_bit_lem s c e a =
-    let b : refused_bit (slotgrant_at s c).answer ≤ 65536 =
-    bit-within read_slotgrant (λ v w. tt) s c in
-    rw (← e, a) at b
+pub slotgrant_placed : Placed 0 read_slotgrant
+unfolding read_slotgrant
+slotgrant_placed = λ v w. tt
