@@ -7,13 +7,17 @@ unfoldable pub put : (d : List ℕ) (at : ℕ) (xs : List ℕ) → List ℕ
 put d at [] = d
 put d at (x ∷ xs) = put (set d at x) (suc at) xs
 
--- the text xs, of at most `most` bytes, was put into t: t became u, over the same lent bytes, and its place is behind the text, or the bytes'
--- end where that cuts it off
+-- the text xs, of at most `most` bytes, was put into d at `at`: d became e, and r is the place behind the text, or d's end where that cuts it
+-- off
+pub record PutAt (most : ℕ) (d : List ℕ) (at : ℕ) (xs : List ℕ) (r : ℕ) (e : List ℕ) : Type 0 where
+  pub place : r ≡ at + min (length xs) (length d - at)
+  pub bytes : e ≡ put d at xs
+  pub short : length xs ≤ most
+
+-- the text xs, of at most `most` bytes, was put at t's place, and t became u, over the same lent bytes
 pub record Put (most : ℕ) (t : Text) (xs : List ℕ) (u : Text) : Type 0 where
   pub same : u.out.ghost_name ≡ t.out.ghost_name
-  pub place : u.at ≡ t.at + min (length xs) (length t.out.now - t.at)
-  pub bytes : u.out.now ≡ put t.out.now t.at xs
-  pub short : length xs ≤ most
+  pub there : PutAt most t.out.now t.at xs u.at u.out.now
 
 -- the whole text xs stands at the start of bytes that had room for it: d became e, and the text has r bytes
 pub record AtStart (d xs : List ℕ) (r : ℕ) (e : List ℕ) : Type 0 where

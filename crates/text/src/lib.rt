@@ -3,8 +3,8 @@
 
 pub mod input;
 
-ghost use Rattle.std.specs.Prelude.{◌≡◌, [], ◌∷◌, ◌+◌, ◌≤◌, length};
-ghost use Rattle.text.specs.Put.{Put, AtStart};
+ghost use Rattle.std.specs.Prelude.{◌≡◌, [], ◌∷◌, ◌+◌, length};
+ghost use Rattle.text.specs.Put.{Put};
 ghost use Rattle.text.specs.Ascii.{space};
 ghost use Rattle.text.specs.Decimal.{decimal, decimal_most};
 
@@ -16,16 +16,16 @@ pub struct Text<'a> {
 }
 
 impl<'a> Text<'a> {
-    // No text yet, so that the first begins at the start of the bytes.
-    pub fn new(out: &'a mut [u8]) -> Text<'a>
-        ensures same_bytes { result.out.ghost_name ≡ out.entry.ghost_name }
-        ensures nothing { (result.at ≡ 0) × (result.out.now ≡ out.old) }
+    pub fn new(out: &'a mut [u8], at: usize) -> Text<'a>
+        ensures same { result.out.ghost_name ≡ out.entry.ghost_name }
+        ensures bytes { result.out.now ≡ out.old }
+        ensures place { result.at ≡ at }
     {
-        Text { out, at: 0 }
+        Text { out, at }
     }
 
     // The place behind the text.
-    pub fn len(&self) -> usize
+    pub fn place(&self) -> usize
         ensures { result ≡ self.now.at }
     {
         self.at
@@ -53,10 +53,11 @@ impl<'a> Text<'a> {
         ensures { Put decimal_most self.old (decimal n) self.new }
     {
         if n < 10 {
-            return self.byte(48 + n as u8);
+            self.byte(48 + n as u8);
+        } else {
+            self.number(n / 10);
+            self.byte(48 + (n % 10) as u8);
         }
-        self.number(n / 10);
-        self.byte(48 + (n % 10) as u8);
     }
 
     // A number as the next field of a line: behind a space.
@@ -66,12 +67,4 @@ impl<'a> Text<'a> {
         self.byte(b' ');
         self.number(n);
     }
-}
-pub fn try_it(out: &mut [u8]) -> usize
-   requires { 30 ≤ length out.old }
-   ensures { AtStart out.old (space ∷ decimal 34) result out.new }
-{
-    let mut t = Text::new(out);
-    t.space_number(34);
-    t.len()
 }

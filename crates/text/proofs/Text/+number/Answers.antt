@@ -5,5 +5,5 @@ use Rattle.text.proofs.Text.+number.Goals as goal
 pub returns-then-n-lt10 : goal.returns-then-n-lt10
 returns-then-n-lt10 t c = number-one _ (omega arith) c.byte.ensures
 
-pub returns : goal.returns
-returns t c = number_more _ (omega arith) (omega arith) c.number.ensures c.byte-2.ensures
+pub returns-else-n-lt10 : goal.returns-else-n-lt10
+returns-else-n-lt10 t c = number_more _ (omega arith) (omega arith) c.number.ensures c.byte-else-n-lt10.ensures

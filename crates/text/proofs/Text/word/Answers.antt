@@ -1,4 +1,4 @@
-use Rattle.text.specs.Laws.Puts.{put_nothing, put_more, put_all}
+use Rattle.text.specs.Laws.Puts.{put_nothing, put_more}
 use Rattle.text.proofs.Text.word.Goals as goal
 
 pub loop-b-init : goal.loop-b-init
