@@ -17,6 +17,9 @@ use text::input;
 // The bytes of a page of the list. No record goes from one page to the next.
 const PAGE: usize = 16384;
 
+// What is behind so many pages is not read.
+const MOST_PAGES: u64 = 1048576;
+
 // Why a page is not replayed to its end.
 #[derive(Drop)]
 enum Fault {
@@ -66,7 +69,7 @@ fn replay_page(rt: &impl Print, page: &[u8], tally: &mut Tally) -> Result<(), Fa
 // All pages, one after the other: a list has one at least.
 fn replay<R: Read>(rt: &impl Print, from: &mut R, tally: &mut Tally) -> io::Result<()> {
     let mut room = [0u8; PAGE];
-    for number in 0..u64::MAX {
+    for number in 0..MOST_PAGES {
         let n = input::read_full(from, &mut room);
         if n == 0 && 0 < number {
             break;

@@ -5,7 +5,7 @@ ghost use Rattle.replay.specs.declared.record.TheConstants.{MOST_BYTES};
 use crate::difference::{Difference, first_unequal};
 use crate::list::{Malformed, Reader};
 use arrayvec::ArrayVec;
-use replay_calls::answers::{MOST_WORDS, Stop, Words};
+use replay_calls::answers::{MOST_WORDS, Stop, UNTOUCHED, Words};
 use replay_calls::block_calls::BlockCall;
 use replay_calls::calls::Call;
 use replay_calls::given::Given;
@@ -67,7 +67,11 @@ impl Class {
     // Whether this port has to answer so; stop is the bit at which the original was cut off.
     fn allows(self, stop: Option<u64>, answer: Result<(), Stop>) -> bool {
         match (self, answer) {
-            (Class::Completed | Class::ListedCompleted, Ok(())) => true,
+            // A refusal's number is 1 at least: what has number 0 completed, whatever its bit.
+            (
+                Class::Completed | Class::ListedCompleted,
+                Ok(()) | Err(Stop::Refused { number: 0, .. }),
+            ) => true,
             (Class::Refused, Err(Stop::Refused { number: 1..=14, .. })) => true,
             (Class::CutOff, Err(Stop::Refused { number: 1, bit })) => stop == Some(bit),
             (Class::ListedRefused(n) | Class::RefusedBy(n), Err(Stop::Refused { number, .. })) => {
@@ -90,8 +94,8 @@ pub(crate) struct Record<'a> {
     // The words and the bytes that the call has to leave.
     words: Words,
     left: &'a [u8],
-    // The bits from pos at which the original was cut off, in pairs: for how many windows, and the bit.
-    stops: ArrayVec<u64, MOST_WORDS>,
+    // Where the original was cut off, the bits from pos at which it was, in pairs: for how many windows, and the bit.
+    stops: Option<Words>,
     ghost short: { length bytes.now ≤ MOST_BYTES },
 }
 
@@ -140,7 +144,7 @@ impl<'a> TryFrom<&'a [u8]> for Record<'a> {
             numbers: list.numbers()?,
             words: Words::untouched(),
             left: bytes,
-            stops: ArrayVec::new(),
+            stops: None,
         };
         record.read_answer(&mut list)?;
         if list.is_empty() {
@@ -152,26 +156,33 @@ impl<'a> TryFrom<&'a [u8]> for Record<'a> {
 }
 
 impl<'a> Record<'a> {
-    // What the call has to leave. A call that is refused leaves bytes and cursor as they were.
+    // What the call has to leave. A call that is refused leaves bytes and cursor as they were. The record has one list: of the answer's words, of
+    // the stops, or of both, where a call that was cut off always answers.
     fn read_answer(&mut self, list: &mut Reader<'a>) -> Result<(), Malformed> {
-        if matches!(self.class, Class::Completed) || always_answers(self.call) {
-            self.words.put(&list.numbers()?);
-            if matches!(self.class, Class::Completed | Class::ListedCompleted)
-                && writes(self.call)
-            {
-                self.left = list.bytes(self.bytes.len() as u64)?;
-            }
+        let answered = matches!(self.class, Class::Completed) || always_answers(self.call);
+        let cut_off = matches!(self.class, Class::CutOff);
+        let mut recorded = Words::untouched();
+        if answered || cut_off {
+            recorded.put(&list.numbers()?);
+        }
+        if answered {
+            self.words = recorded;
         } else if matches!(self.call, Call::Read(_) | Call::Write(_) | Call::Bits(_)) {
             self.words.put(&[self.first.pos as u64]);
         }
-        if matches!(self.class, Class::CutOff) {
-            self.stops = list.numbers()?;
-            // They are given for each window, and for no more.
+        if cut_off {
+            self.stops = Some(recorded);
+            // They are given for no more windows than there are.
             let windows = self.windows;
-            let last = self.stop(windows.saturating_sub(1));
-            if last.is_none() || self.stop(windows).is_some() {
+            if self.stop(windows) != Some(UNTOUCHED) {
                 return Err(Malformed);
             }
+        }
+        if answered
+            && matches!(self.class, Class::Completed | Class::ListedCompleted)
+            && writes(self.call)
+        {
+            self.left = list.bytes(self.bytes.len() as u64)?;
         }
         Ok(())
     }
@@ -186,17 +197,19 @@ impl<'a> Record<'a> {
         Cursor { end, ..self.first }
     }
 
-    // The bit at which the original was cut off in window i.
+    // The bit at which the original was cut off in window i, where it was. Behind the pairs that are recorded it is a word that is not put, and 0
+    // behind all that there is room for.
     fn stop(&self, i: u64) -> Option<u64> {
+        let stops = self.stops.as_ref()?;
         let mut before = i;
-        let (pairs, _) = self.stops.as_chunks::<2>();
+        let (pairs, _) = stops.words.as_chunks::<2>();
         for [windows, bit] in pairs {
             if before < *windows {
                 return Some(*bit);
             }
             before -= *windows;
         }
-        None
+        Some(0)
     }
 
     // The call on window i.

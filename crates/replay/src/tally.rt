@@ -25,13 +25,13 @@ impl Row {
             Class::CutOff => &mut self.stopped,
             Class::ListedCompleted | Class::ListedRefused(_) => &mut self.listed,
         };
-        *cases = cases.saturating_add(1);
+        *cases = cases.wrapping_add(1);
     }
 }
 
 impl fmt::Display for Row {
     fn fmt<W: fmt::Write>(&self, f: &mut fmt::Formatter<W>) -> fmt::Result {
-        let refused = self.refused.saturating_add(self.stopped);
+        let refused = self.refused.wrapping_add(self.stopped);
         write!(f, "{} equal, {refused} refused by both,", self.equal)?;
         if 0 < self.stopped {
             write!(f, " {} of these at the same bit,", self.stopped)?;
@@ -60,7 +60,7 @@ impl Tally {
     }
 
     pub(crate) fn count(&mut self, call: Call, class: Class, same: bool) {
-        self.cases = self.cases.saturating_add(1);
+        self.cases = self.cases.wrapping_add(1);
         if let Some(row) = self.rows.get_mut(u64::from(call) as usize) {
             row.count(class, same);
         }
@@ -73,7 +73,7 @@ impl fmt::Display for Tally {
         for (number, row) in self.rows.iter().enumerate() {
             if let Ok(call) = Call::try_from(number as u64) {
                 writeln!(f, "{call}: {row}")?;
-                different = different.saturating_add(row.different);
+                different = different.wrapping_add(row.different);
             }
         }
         writeln!(f, "{} cases, {different} differences", self.cases)

@@ -17,6 +17,9 @@ pub enum Stop {
 // The words that the longest answer has room in, some of which no call puts.
 pub const MOST_WORDS: usize = 40;
 
+// A word that no call has put.
+pub const UNTOUCHED: u64 = 0x5555_5555_5555_5555;
+
 // The words of an answer, the first of which a call puts.
 #[derive(Clone, Copy)]
 pub struct Words {
@@ -29,7 +32,7 @@ impl Words {
         ensures { result.words ≡ replicate MOST_WORDS 6148914691236517205 }
     {
         Words {
-            words: [0x5555_5555_5555_5555; MOST_WORDS],
+            words: [UNTOUCHED; MOST_WORDS],
         }
     }
 
@@ -56,7 +59,7 @@ pub(crate) fn read_status(status: u64) -> Result<(), Stop> {
     let bit = status / 256;
     match (status % 256) as u8 {
         0 if bit == 0 => Ok(()),
-        255 => Err(Stop::Malformed),
+        255 if bit == 0 => Err(Stop::Malformed),
         number => Err(Stop::Refused { number, bit }),
     }
 }

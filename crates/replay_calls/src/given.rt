@@ -17,9 +17,12 @@ impl Given<'_> {
         self.number(i) as usize
     }
 
-    // An offset is given as its two's complement.
+    // An offset is given as its two's complement. The least of all is none that is recorded: it stands for 0.
     pub(crate) fn offset(self, i: usize) -> isize {
-        self.count(i).cast_signed()
+        match self.count(i).cast_signed() {
+            isize::MIN => 0,
+            offset => offset,
+        }
     }
 
     // What is too large for an octet becomes the largest.
