@@ -3,9 +3,9 @@ use Rattle.std.specs.Prelude.{◌≡◌, refl, List, [], ◌∷◌, ◌++◌, �
 use Rattle.std.proofs.Common.{sym, ap, ◌∙◌, pow-suc, arith, lt-ltb, le-ltb, length-append}
 use Rattle.std.proofs.Math.Decide.{dec_le}
 use Rattle.text.specs.declared.Text.{Text}
-use Rattle.text.specs.Put.{Put}
+use Rattle.text.specs.Put.{PutAt, Put}
 use Rattle.text.specs.Decimal.{digit, decimal_by, decimal, decimal_most, value_from}
-use Rattle.text.specs.Laws.Puts.{then, within, reads}
+use Rattle.text.specs.Laws.Puts.{then_at, within_at, reads_at}
 
 -- any number of steps that is large enough
 same : (k j n : ℕ) → n < k → n < j → decimal_by k n ≡ decimal_by j n
@@ -54,12 +54,19 @@ unfolding decimal
 decimal-short n h = few (suc n) 19 n (omega arith)
 
 -- a number's last digit is put behind the digits of its tenth
+pub number-one_at : {d e : List ℕ} {at r : ℕ} (n : ℕ) → n < 10 → PutAt 1 d at (digit n ∷ []) r e → PutAt decimal_most d at (decimal n) r e
+number-one_at n h a = within_at decimal_most (decimal-short n (omega arith)) (reads_at (sym (decimal-one n h)) a)
+
+pub number_more_at : {d e f : List ℕ} {at p r : ℕ} (n : ℕ) → 10 ≤ n → n < 2 ^ 64 → PutAt decimal_most d at (decimal (n / 10)) p e
+    → PutAt 1 e p (digit (n % 10) ∷ []) r f → PutAt decimal_most d at (decimal n) r f
+number_more_at n h fits a b = within_at decimal_most (decimal-short n fits) (reads_at (sym (decimal_more n h)) (then_at a b))
+
 pub number-one : {t u : Text} (n : ℕ) → n < 10 → Put 1 t (digit n ∷ []) u → Put decimal_most t (decimal n) u
-number-one n h a = within decimal_most (decimal-short n (omega arith)) (reads (sym (decimal-one n h)) a)
+number-one n h a = record { same = a.same; there = number-one_at n h a.there }
 
 pub number_more : {t u v : Text} (n : ℕ) → 10 ≤ n → n < 2 ^ 64 → Put decimal_most t (decimal (n / 10)) u → Put 1 u (digit (n % 10) ∷ []) v
     → Put decimal_most t (decimal n) v
-number_more n h fits a b = within decimal_most (decimal-short n fits) (reads (sym (decimal_more n h)) (then a b))
+number_more n h fits a b = record { same = b.same ∙ a.same; there = number_more_at n h fits a.there b.there }
 
 -- ---- the digits say the number
 
