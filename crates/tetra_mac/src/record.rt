@@ -67,7 +67,7 @@ pub fn moved(out: &mut [u64], m: Moved) -> u64
 
 // A header that crosses as a record of N words.
 pub trait Record<const N: usize>: Header {
-    ghost words: { Self → List ℕ };
+    ghost words_of: { Self → List ℕ };
 
     ghost known: { List ℕ → Bool };
 
@@ -79,16 +79,16 @@ pub trait Record<const N: usize>: Header {
 
     // The words of a header.
     fn words(h: Self) -> [u64; N]
-        ensures { result ≡ words h };
+        ensures { result ≡ words_of h };
 
     // Whether words are long enough and have no unknown code.
-    fn known(ws: &[u64]) -> bool
-        ensures { result ≡ known ws.now };
+    fn known(words: &[u64]) -> bool
+        ensures { result ≡ known words.now };
 
     // The header of words whose codes are known.
-    fn value(ws: &[u64]) -> Self
-        requires { N ≤ length ws.now }
-        ensures { result ≡ value ws.now };
+    fn value(words: &[u64]) -> Self
+        requires { N ≤ length words.now }
+        ensures { result ≡ value words.now };
 
     // Writes a header at the cursor.
     fn to_bitbuf(s: &mut [u8], c: Cursor, h: Self) -> Moved
@@ -102,7 +102,7 @@ pub trait Record<const N: usize>: Header {
 
 // Reads a header at the cursor, and gives the cursor's bit and the header's words.
 pub(crate) fn read<const N: usize, T: Record<N>>(s: &[u8], c: Cursor, out: &mut [u64]) -> u64
-    ensures { replied result out.new ≡ header_read_reply T.words (N + 1) (at_cursor T.reader s.now c) out.old }
+    ensures { replied result out.new ≡ header_read_reply T.words_of (N + 1) (at_cursor T.reader s.now c) out.old }
 {
     if out.len() <= N {
         return MALFORMED;
