@@ -1,4 +1,5 @@
-// What every call shares: its status, the words that it puts into out, and numbers cut down to the type of their field.
+// What every call shares: its status, the words that it puts into out, the calls that read and write a header's record, and numbers cut down
+// to the type of their field.
 ghost use Rattle.std.specs.Prelude.{ℕ, List, Bool, true, ◌≡◌, ◌+◌, ◌≤◌, ◌<◌, min, length};
 ghost use Rattle.std.proofs.lemmas.List.Edits.{sets};
 ghost use Rattle.tetra_core.specs.declared.bitbuffer.Cursor.{Cursor};
@@ -96,7 +97,7 @@ pub trait Record<const N: usize>: Header {
 
     ghost long: { (ws : List ℕ) → known ws ≡ true → N ≤ length ws };
 
-    // so the bit of a refused read fits a status
+    // a refused field begins inside the window, so its bit fits a status
     ghost placed: { Placed 0 Self.reader };
 }
 
