@@ -1,7 +1,7 @@
 -- Laws of the interface. Of each record: its words are known and give the value back (..-of-words; ..-kept of a part), a record that is known is
--- long enough (..-long), and the bit of a refused read fits a status (..-bit).
+-- long enough (..-long), and it is refused only at offsets that were reached (..-placed).
 --
--- Placed   bit-within      a refused field begins inside the window
+-- Placed   offset-fits     a refused field begins inside the window, so its bit fits a status
 -- Reply    read-..         the returns of a call that reads
 --          write-.., record-..   of a call that writes
 --          count-..        of a call that counts bits

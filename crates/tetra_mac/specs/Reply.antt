@@ -69,6 +69,11 @@ answer_reply words out at (Err r) = denied_reply out at r
 abbrev pub header_read_reply : {A : Type 0} → (A → List ℕ) → ℕ → Read A → List ℕ → Reply
 header_read_reply words n done out = read_reply (answer_reply words) n done.cursor.pos done.answer out
 
+-- the bit that a read is refused at, or 0
+abbrev pub refused_bit : {A : Type 0} → Result A Refusal → ℕ
+refused_bit (Ok a) = 0
+refused_bit (Err r) = r.offset
+
 -- ---- a call that writes the value of a record, if it has one
 
 -- a value, if its words are known

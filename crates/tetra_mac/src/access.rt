@@ -88,52 +88,8 @@ fn option_known(option: u64, reservation: u64) -> bool
     }
 }
 
-// The words of a MAC-ACCESS.
-pub(crate) fn mac_access_words(h: MacAccess) -> [u64; 8]
-    ensures { result ≡ mac_access_words h }
-{
-    let a = h.addr;
-    let o = h.option;
-    [
-        codec::bit(h.fill_bits),
-        codec::bit(h.encrypted),
-        tetra_core::address::uplink_address_type(a) as u64,
-        address::uplink_kind(a),
-        uplink_address::uplink_number(a),
-        option_kind(o),
-        option_first(o),
-        option_reservation(o),
-    ]
-}
-
-// Whether words are long enough for a MAC-ACCESS and have no unknown code.
-pub(crate) fn mac_access_known(words: &[u64]) -> bool
-    ensures { result ≡ mac_access_known words.now }
-{
-    if words.len() < WORDS {
-        return false;
-    }
-    if !address::uplink_known(words[ADDRESS_TYPE], words[SSI_KIND]) {
-        return false;
-    }
-    option_known(words[OPTION], words[RESERVATION])
-}
-
-// The MAC-ACCESS of words whose codes are known.
-pub(crate) fn mac_access_value(words: &[u64]) -> MacAccess
-    requires { 8 ≤ length words.now }
-    ensures { result ≡ mac_access_value words.now }
-{
-    MacAccess {
-        fill_bits: words[FILL_BITS] != 0,
-        encrypted: words[ENCRYPTED] != 0,
-        addr: address::uplink_value(words[ADDRESS_TYPE], words[SSI_KIND], words[ADDRESS]),
-        option: option_value(words[OPTION], words[OPTION_FIRST], words[RESERVATION]),
-    }
-}
-
 impl Record<WORDS> for MacAccess {
-    ghost words = { mac_access_words };
+    ghost words_of = { mac_access_words };
 
     ghost known = { mac_access_known };
 
@@ -144,15 +100,37 @@ impl Record<WORDS> for MacAccess {
     ghost written = { mac_access_written };
 
     fn words(h: MacAccess) -> [u64; WORDS] {
-        mac_access_words(h)
+        let a = h.addr;
+        let o = h.option;
+        [
+            codec::bit(h.fill_bits),
+            codec::bit(h.encrypted),
+            tetra_core::address::uplink_address_type(a) as u64,
+            address::uplink_kind(a),
+            uplink_address::uplink_number(a),
+            option_kind(o),
+            option_first(o),
+            option_reservation(o),
+        ]
     }
 
-    fn known(ws: &[u64]) -> bool {
-        mac_access_known(ws)
+    fn known(words: &[u64]) -> bool {
+        if words.len() < WORDS {
+            return false;
+        }
+        if !address::uplink_known(words[ADDRESS_TYPE], words[SSI_KIND]) {
+            return false;
+        }
+        option_known(words[OPTION], words[RESERVATION])
     }
 
-    fn value(ws: &[u64]) -> MacAccess {
-        mac_access_value(ws)
+    fn value(words: &[u64]) -> MacAccess {
+        MacAccess {
+            fill_bits: words[FILL_BITS] != 0,
+            encrypted: words[ENCRYPTED] != 0,
+            addr: address::uplink_value(words[ADDRESS_TYPE], words[SSI_KIND], words[ADDRESS]),
+            option: option_value(words[OPTION], words[OPTION_FIRST], words[RESERVATION]),
+        }
     }
 
     fn to_bitbuf(s: &mut [u8], c: Cursor, h: MacAccess) -> Moved {

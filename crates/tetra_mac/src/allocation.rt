@@ -114,7 +114,7 @@ pub fn channel_allocation_value(words: &[u64]) -> ChanAllocElement
 }
 
 impl Record<WORDS> for ChanAllocElement {
-    ghost words = { channel_allocation_words };
+    ghost words_of = { channel_allocation_words };
 
     ghost known = { channel_allocation_known };
 
@@ -128,12 +128,12 @@ impl Record<WORDS> for ChanAllocElement {
         channel_allocation_words(h)
     }
 
-    fn known(ws: &[u64]) -> bool {
-        channel_allocation_known(ws)
+    fn known(words: &[u64]) -> bool {
+        channel_allocation_known(words)
     }
 
-    fn value(ws: &[u64]) -> ChanAllocElement {
-        channel_allocation_value(ws)
+    fn value(words: &[u64]) -> ChanAllocElement {
+        channel_allocation_value(words)
     }
 
     fn to_bitbuf(s: &mut [u8], c: Cursor, h: ChanAllocElement) -> Moved {

@@ -169,87 +169,8 @@ fn joined(header: u64, one: [u64; 2], two: [u64; 2]) -> [u64; 5]
     [header, one[0], one[1], two[0], two[1]]
 }
 
-// The words of an ACCESS-ASSIGN.
-fn access_assign_words(a: AccessAssign) -> [u64; 5]
-    ensures { result ≡ access_assign_words a }
-{
-    match a {
-        AccessAssign::DownlinkCommonControlUplinkCommonOnly {
-            access_field_1,
-            access_field_2,
-        } => joined(0, field_words(access_field_1), field_words(access_field_2)),
-        AccessAssign::DownlinkDefinedUplinkCommonAndAssigned {
-            downlink_usage_marker,
-            access_field,
-        } => joined(
-            1,
-            dl_words(downlink_usage_marker),
-            field_words(access_field),
-        ),
-        AccessAssign::DownlinkDefinedUplinkAssignedOnly {
-            downlink_usage_marker,
-            access_field,
-        } => joined(
-            2,
-            dl_words(downlink_usage_marker),
-            field_words(access_field),
-        ),
-        AccessAssign::DownlinkDefinedUplinkDefined {
-            downlink_usage_marker,
-            uplink_usage_marker,
-        } => joined(
-            3,
-            dl_words(downlink_usage_marker),
-            ul_words(uplink_usage_marker),
-        ),
-    }
-}
-
-// Whether words are long enough for an ACCESS-ASSIGN and have no unknown code.
-fn access_assign_known(words: &[u64]) -> bool
-    ensures { result ≡ access_assign_known words.now }
-{
-    if words.len() < WORDS {
-        return false;
-    }
-    if !one_known(words[HEADER], words[ONE_FIRST], words[ONE_SECOND]) {
-        return false;
-    }
-    two_known(words[HEADER], words[TWO_FIRST], words[TWO_SECOND])
-}
-
-// The ACCESS-ASSIGN of words whose codes are known.
-fn access_assign_value(words: &[u64]) -> AccessAssign
-    requires { 5 ≤ length words.now }
-    ensures { result ≡ access_assign_value words.now }
-{
-    let header = words[HEADER];
-    let a = words[ONE_FIRST];
-    let b = words[ONE_SECOND];
-    let c = words[TWO_FIRST];
-    let d = words[TWO_SECOND];
-    match header {
-        0 => AccessAssign::DownlinkCommonControlUplinkCommonOnly {
-            access_field_1: field_value(a, b),
-            access_field_2: field_value(c, d),
-        },
-        1 => AccessAssign::DownlinkDefinedUplinkCommonAndAssigned {
-            downlink_usage_marker: dl_value(a, b),
-            access_field: field_value(c, d),
-        },
-        2 => AccessAssign::DownlinkDefinedUplinkAssignedOnly {
-            downlink_usage_marker: dl_value(a, b),
-            access_field: field_value(c, d),
-        },
-        _ => AccessAssign::DownlinkDefinedUplinkDefined {
-            downlink_usage_marker: dl_value(a, b),
-            uplink_usage_marker: ul_value(c, d),
-        },
-    }
-}
-
 impl Record<WORDS> for AccessAssign {
-    ghost words = { access_assign_words };
+    ghost words_of = { access_assign_words };
 
     ghost known = { access_assign_known };
 
@@ -259,16 +180,73 @@ impl Record<WORDS> for AccessAssign {
 
     ghost written = { access_assign_written };
 
-    fn words(h: AccessAssign) -> [u64; WORDS] {
-        access_assign_words(h)
+    fn words(a: AccessAssign) -> [u64; WORDS] {
+        match a {
+            AccessAssign::DownlinkCommonControlUplinkCommonOnly {
+                access_field_1,
+                access_field_2,
+            } => joined(0, field_words(access_field_1), field_words(access_field_2)),
+            AccessAssign::DownlinkDefinedUplinkCommonAndAssigned {
+                downlink_usage_marker,
+                access_field,
+            } => joined(
+                1,
+                dl_words(downlink_usage_marker),
+                field_words(access_field),
+            ),
+            AccessAssign::DownlinkDefinedUplinkAssignedOnly {
+                downlink_usage_marker,
+                access_field,
+            } => joined(
+                2,
+                dl_words(downlink_usage_marker),
+                field_words(access_field),
+            ),
+            AccessAssign::DownlinkDefinedUplinkDefined {
+                downlink_usage_marker,
+                uplink_usage_marker,
+            } => joined(
+                3,
+                dl_words(downlink_usage_marker),
+                ul_words(uplink_usage_marker),
+            ),
+        }
     }
 
-    fn known(ws: &[u64]) -> bool {
-        access_assign_known(ws)
+    fn known(words: &[u64]) -> bool {
+        if words.len() < WORDS {
+            return false;
+        }
+        if !one_known(words[HEADER], words[ONE_FIRST], words[ONE_SECOND]) {
+            return false;
+        }
+        two_known(words[HEADER], words[TWO_FIRST], words[TWO_SECOND])
     }
 
-    fn value(ws: &[u64]) -> AccessAssign {
-        access_assign_value(ws)
+    fn value(words: &[u64]) -> AccessAssign {
+        let header = words[HEADER];
+        let a = words[ONE_FIRST];
+        let b = words[ONE_SECOND];
+        let c = words[TWO_FIRST];
+        let d = words[TWO_SECOND];
+        match header {
+            0 => AccessAssign::DownlinkCommonControlUplinkCommonOnly {
+                access_field_1: field_value(a, b),
+                access_field_2: field_value(c, d),
+            },
+            1 => AccessAssign::DownlinkDefinedUplinkCommonAndAssigned {
+                downlink_usage_marker: dl_value(a, b),
+                access_field: field_value(c, d),
+            },
+            2 => AccessAssign::DownlinkDefinedUplinkAssignedOnly {
+                downlink_usage_marker: dl_value(a, b),
+                access_field: field_value(c, d),
+            },
+            _ => AccessAssign::DownlinkDefinedUplinkDefined {
+                downlink_usage_marker: dl_value(a, b),
+                uplink_usage_marker: ul_value(c, d),
+            },
+        }
     }
 
     fn to_bitbuf(s: &mut [u8], c: Cursor, h: AccessAssign) -> Moved {

@@ -1,8 +1,8 @@
 // The calls of the bit buffer: bits as one word.
 ghost use Rattle.std.specs.Prelude.{◌≡◌, ◌≤◌, length};
 ghost use Rattle.tetra_core.specs.BitBuffer.{read_bits, peek_bits_posoffset};
-ghost use Rattle.tetra_mac.specs.Reply.{replied, wrote, window};
-ghost use Rattle.tetra_mac.specs.Bits.{bits_bit, bits_reply, bits_read_reply, bits_write_reply};
+ghost use Rattle.tetra_mac.specs.Reply.{replied, wrote, window, refused_bit};
+ghost use Rattle.tetra_mac.specs.Bits.{bits_reply, bits_read_reply, bits_write_reply};
 
 use crate::record;
 use tetra_core::bitbuffer;
@@ -10,7 +10,7 @@ use tetra_core::bitbuffer::{Cursor, Read};
 
 // The reply to a read of bits.
 fn bits_reply(out: &mut [u64], done: Read<u64>) -> u64
-    requires { (2 ≤ length out.old) × (bits_bit done.answer ≤ 65536) }
+    requires { (2 ≤ length out.old) × (refused_bit done.answer ≤ 65536) }
     ensures { replied result out.new ≡ bits_reply out.old done.cursor.pos done.answer }
 {
     let at = done.cursor.pos;

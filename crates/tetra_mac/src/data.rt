@@ -7,8 +7,8 @@ ghost use Rattle.tetra_mac.specs.MacData.{access_option, data_option, as_access,
 ghost use Rattle.tetra_mac.specs.Laws.MacData.{mac_data_long, mac_data_placed};
 
 use crate::access::{OPTION, WORDS};
+use crate::record;
 use crate::record::Record;
-use crate::{access, record};
 use mac_access::mac_access::{MacAccess, MacAccessOption};
 use mac_data::mac_data::{MacData, MacDataOption};
 use tetra_core::bitbuffer::{Cursor, Moved};
@@ -59,18 +59,8 @@ fn as_data(h: MacAccess) -> MacData
     }
 }
 
-// Whether words are long enough for a MAC-DATA and have no unknown code.
-fn mac_data_known(words: &[u64]) -> bool
-    ensures { result ≡ mac_data_known words.now }
-{
-    if !access::mac_access_known(words) {
-        return false;
-    }
-    words[OPTION] != 0
-}
-
 impl Record<WORDS> for MacData {
-    ghost words = { mac_data_words };
+    ghost words_of = { mac_data_words };
 
     ghost known = { mac_data_known };
 
@@ -81,15 +71,18 @@ impl Record<WORDS> for MacData {
     ghost written = { mac_data_written };
 
     fn words(h: MacData) -> [u64; WORDS] {
-        access::mac_access_words(as_access(h))
+        MacAccess::words(as_access(h))
     }
 
-    fn known(ws: &[u64]) -> bool {
-        mac_data_known(ws)
+    fn known(words: &[u64]) -> bool {
+        if !MacAccess::known(words) {
+            return false;
+        }
+        words[OPTION] != 0
     }
 
-    fn value(ws: &[u64]) -> MacData {
-        as_data(access::mac_access_value(ws))
+    fn value(words: &[u64]) -> MacData {
+        as_data(MacAccess::value(words))
     }
 
     fn to_bitbuf(s: &mut [u8], c: Cursor, h: MacData) -> Moved {

@@ -1,4 +1,5 @@
-// What every call shares: its status, the words that it puts into out, and numbers cut down to the type of their field.
+// What every call shares: its status, the words that it puts into out, the calls that read and write a header's record, and numbers cut down
+// to the type of their field.
 ghost use Rattle.std.specs.Prelude.{ℕ, List, Bool, true, ◌≡◌, ◌+◌, ◌≤◌, ◌<◌, min, length};
 ghost use Rattle.std.proofs.lemmas.List.Edits.{sets};
 ghost use Rattle.tetra_core.specs.declared.bitbuffer.Cursor.{Cursor};
@@ -67,7 +68,7 @@ pub fn moved(out: &mut [u64], m: Moved) -> u64
 
 // A header that crosses as a record of N words.
 pub trait Record<const N: usize>: Header {
-    ghost words: { Self → List ℕ };
+    ghost words_of: { Self → List ℕ };
 
     ghost known: { List ℕ → Bool };
 
@@ -79,16 +80,16 @@ pub trait Record<const N: usize>: Header {
 
     // The words of a header.
     fn words(h: Self) -> [u64; N]
-        ensures { result ≡ words h };
+        ensures { result ≡ words_of h };
 
     // Whether words are long enough and have no unknown code.
-    fn known(ws: &[u64]) -> bool
-        ensures { result ≡ known ws.now };
+    fn known(words: &[u64]) -> bool
+        ensures { result ≡ known words.now };
 
     // The header of words whose codes are known.
-    fn value(ws: &[u64]) -> Self
-        requires { N ≤ length ws.now }
-        ensures { result ≡ value ws.now };
+    fn value(words: &[u64]) -> Self
+        requires { N ≤ length words.now }
+        ensures { result ≡ value words.now };
 
     // Writes a header at the cursor.
     fn to_bitbuf(s: &mut [u8], c: Cursor, h: Self) -> Moved
@@ -96,13 +97,13 @@ pub trait Record<const N: usize>: Header {
 
     ghost long: { (ws : List ℕ) → known ws ≡ true → N ≤ length ws };
 
-    // so the bit of a refused read fits a status
+    // a refused field begins inside the window, so its bit fits a status
     ghost placed: { Placed 0 Self.reader };
 }
 
 // Reads a header at the cursor, and gives the cursor's bit and the header's words.
 pub(crate) fn read<const N: usize, T: Record<N>>(s: &[u8], c: Cursor, out: &mut [u64]) -> u64
-    ensures { replied result out.new ≡ header_read_reply T.words (N + 1) (at_cursor T.reader s.now c) out.old }
+    ensures { replied result out.new ≡ header_read_reply T.words_of (N + 1) (at_cursor T.reader s.now c) out.old }
 {
     if out.len() <= N {
         return MALFORMED;

@@ -93,7 +93,7 @@ pub fn slotgrant_value(words: &[u64]) -> BasicSlotgrant
 }
 
 impl Record<WORDS> for BasicSlotgrant {
-    ghost words = { slotgrant_words };
+    ghost words_of = { slotgrant_words };
 
     ghost known = { slotgrant_known };
 
@@ -107,12 +107,12 @@ impl Record<WORDS> for BasicSlotgrant {
         slotgrant_words(h)
     }
 
-    fn known(ws: &[u64]) -> bool {
-        slotgrant_known(ws)
+    fn known(words: &[u64]) -> bool {
+        slotgrant_known(words)
     }
 
-    fn value(ws: &[u64]) -> BasicSlotgrant {
-        slotgrant_value(ws)
+    fn value(words: &[u64]) -> BasicSlotgrant {
+        slotgrant_value(words)
     }
 
     fn to_bitbuf(s: &mut [u8], c: Cursor, h: BasicSlotgrant) -> Moved {

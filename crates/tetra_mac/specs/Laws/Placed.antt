@@ -1,5 +1,5 @@
 -- A reader that refuses only at offsets that it has reached is refused inside the window, so the bit of its refusal fits a status.
-use Rattle.std.specs.Prelude.{ℕ, ◌+◌, ◌≤◌, ◌≡◌, refl, List, Bool, true, false, length, drop, leb, Result, Ok, Err}
+use Rattle.std.specs.Prelude.{ℕ, ◌+◌, ◌≤◌, ◌≡◌, refl, List, Bool, true, false, length, drop, leb, Err}
 use Rattle.std.proofs.Common.{arith, length-drop, leb-true, leb-false}
 use Rattle.tetra_core.specs.BitBuffer.{good_window}
 use Rattle.tetra_core.specs.Laws.Windows.{good_facts}
@@ -10,6 +10,7 @@ use Rattle.codec.specs.Reader.{Out, got, refused, Reader, done, refuse, field, h
 use Rattle.codec.proofs.Laws.Reader.{field-there, field-short}
 use Rattle.codec.specs.Header.{within, at_cursor, answered}
 use Rattle.codec.proofs.Laws.Header.{length-within}
+use Rattle.tetra_mac.specs.Reply.{refused_bit}
 
 -- each refusal of a reader at the offset o stands at an offset reached
 abbrev pub Placed : {A : Type 0} → ℕ → Reader A → Type 0
@@ -46,11 +47,7 @@ stops {A} (field w k) bs o m h l = go (leb w (length bs)) refl (λ v r. stops (k
         rw (field-there w bs o w_le) (f _ (drop w bs) (omega (arith, length-drop w bs)))
     go false e f = rw (field-short w bs o (leb-false w (length bs) e)) (omega arith)
 
--- the same of a call: the first bit of the field that it refuses, or 0
-abbrev pub refused_bit : {A : Type 0} → Result A Refusal → ℕ
-refused_bit (Ok a) = 0
-refused_bit (Err r) = r.offset
-
+-- the same of a call
 pub bit-within : {A : Type 0} (p : Reader A) → Placed 0 p → (s : List ℕ) (c : Cursor) → refused_bit (at_cursor p s c).answer ≤ 65536
 bit-within {A} p h s c = go (good_window (length s) c) refl
   where

@@ -1,6 +1,6 @@
 use borrow.Author.Rules.{rules}
 use Rattle.tetra_mac.specs.MacAccess.{mac_access_value}
-use Rattle.tetra_mac.proofs.access.mac_access_value.Goals as goal
+use Rattle.tetra_mac.proofs.access.MacAccessRecordWORDS.value.Goals as goal
 
 pub uplink_value-requires : goal.uplink_value-requires
 unfolding mac_access_value

@@ -1,7 +1,7 @@
 use borrow.Author.Rules.{rules}
 use Rattle.codec.proofs.Laws.Cases.{last_case}
 use Rattle.tetra_mac.specs.AccessAssign.{assigns, assign_value}
-use Rattle.tetra_mac.proofs.assign.access_assign_value.Goals as goal
+use Rattle.tetra_mac.proofs.assign.AccessAssignRecordWORDS.value.Goals as goal
 
 pub field_value-requires : goal.field_value-requires
 unfolding assign_value

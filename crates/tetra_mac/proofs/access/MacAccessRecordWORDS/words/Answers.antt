@@ -1,4 +1,4 @@
-use Rattle.tetra_mac.proofs.access.mac_access_words.Goals as goal
+use Rattle.tetra_mac.proofs.access.MacAccessRecordWORDS.words.Goals as goal
 
 pub returns : goal.returns
 returns c =

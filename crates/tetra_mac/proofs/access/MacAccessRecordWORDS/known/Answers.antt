@@ -2,7 +2,7 @@ use mathlib.Core.Path.{sym, ◌∙◌}
 use borrow.Author.Rules.{rules}
 use borrow.Author.Tests.{le-leb, lt-leb}
 use Rattle.tetra_mac.specs.MacAccess.{mac_access_known}
-use Rattle.tetra_mac.proofs.access.mac_access_known.Goals as goal
+use Rattle.tetra_mac.proofs.access.MacAccessRecordWORDS.known.Goals as goal
 
 pub returns : goal.returns
 unfolding mac_access_known

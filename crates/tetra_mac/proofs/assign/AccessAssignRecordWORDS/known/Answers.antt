@@ -2,7 +2,7 @@ use mathlib.Core.Path.{sym, ◌∙◌}
 use borrow.Author.Rules.{rules}
 use borrow.Author.Tests.{le-leb, lt-leb}
 use Rattle.tetra_mac.specs.AccessAssign.{access_assign_known}
-use Rattle.tetra_mac.proofs.assign.access_assign_known.Goals as goal
+use Rattle.tetra_mac.proofs.assign.AccessAssignRecordWORDS.known.Goals as goal
 
 pub returns : goal.returns
 unfolding access_assign_known

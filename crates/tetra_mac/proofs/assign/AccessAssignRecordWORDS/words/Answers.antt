@@ -1,4 +1,4 @@
-use Rattle.tetra_mac.proofs.assign.access_assign_words.Goals as goal
+use Rattle.tetra_mac.proofs.assign.AccessAssignRecordWORDS.words.Goals as goal
 
 pub returns-in-DownlinkCommonControlUplinkCommonOnly : goal.returns-in-DownlinkCommonControlUplinkCommonOnly
 returns-in-DownlinkCommonControlUplinkCommonOnly c = rw (c.joined.ensures, c.field_words.ensures, c.field_words-in-DownlinkCommonControlUplinkCommonOnly.ensures, c.in-DownlinkCommonControlUplinkCommonOnly.is)
