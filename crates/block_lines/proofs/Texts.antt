@@ -10,7 +10,8 @@ use native.Mathlib.Omega.{arith}
 use lib.ListN.{length, length-map}
 use lib.Seq.{length-take-le}
 use Rattle.text.specs.Counts.{IsPrefixLen}
-use Rattle.text.specs.Put.{Put, AtStart}
+use Rattle.text.specs.declared.Text.{Text}
+use Rattle.text.specs.Put.{PutAt, Put, AtStart}
 use Rattle.text.specs.Laws.Puts.{then, wider, reads, put_nothing, at-start, start-counts}
 use Rattle.tetra_core.specs.declared.refusal.Refusal.{Refusal}
 use Rattle.mac_block.specs.declared.reader.BlockEntry.{BlockEntry}
@@ -82,19 +83,19 @@ module _ (v : List ℕ) (n : ℕ) where
 
   -- ---- the lines up to a position are put, and the others are to come
 
-  pub record Written (d : List ℕ) (at : ℕ) (x : Position) (p : ℕ) (e : List ℕ) : Type 0 where
+  pub record Written (d : Text) (x : Position) (e : Text) : Type 0 where
     pub text : List ℕ
     pub lines : ℕ
-    pub put : Put (line_most * lines) d at text p e
+    pub put : Put (line_most * lines) d text e
     pub count : lines + length (lines_from v n x) ≤ entries_most
     pub whole : text ++ lines_text (lines_from v n x) ≡ lines_text (lines_from v n (Position.At 0))
     pub rest : rest_from v n x ≡ rest_bits v n
 
-  pub nothing : (d : List ℕ) (at : ℕ) → Written d at (Position.At 0) at d
-  nothing d at = record { text = []; lines = 0; put = put_nothing d at; count = omega (arith, few-lines); whole = refl; rest = refl }
+  pub nothing : (d : Text) → Written d (Position.At 0) d
+  nothing d = record { text = []; lines = 0; put = put_nothing d; count = omega (arith, few-lines); whole = refl; rest = refl }
 
-  pub turn : {d e f : List ℕ} {at p r : ℕ} (x : Position) {w : WalkStep} {b : BlockEntry} → Written d at x p e → w ≡ step_from v n x
-      → w.answer ≡ Ok (Some b) → Put line_most e p (line_text (entry_line b)) r f → Written d at w.position r f
+  pub turn : {d e f : Text} (x : Position) {w : WalkStep} {b : BlockEntry} → Written d x e → w ≡ step_from v n x
+      → w.answer ≡ Ok (Some b) → Put line_most e (line_text (entry_line b)) f → Written d w.position f
   unfolding lines_text
   turn x {w} {b} k q a l =
       let next = line-next x q a in
@@ -107,8 +108,8 @@ module _ (v : List ℕ) (n : ℕ) where
         rest = same_rest v n x q ∙ k.rest;
       }
 
-  pub finish : {d e f : List ℕ} {at p r m : ℕ} (x : Position) {w : WalkStep} → Written d at x p e → w ≡ step_from v n x → NoEntry w.answer
-      → m ≡ rest_from v n w.position → Put rest_most e p (rest_text m) r f → Put listing_most d at (block_text v n) r f
+  pub finish : {d e f : Text} {m : ℕ} (x : Position) {w : WalkStep} → Written d x e → w ≡ step_from v n x → NoEntry w.answer
+      → m ≡ rest_from v n w.position → Put rest_most e (rest_text m) f → Put listing_most d (block_text v n) f
   unfolding lines_text
   finish x k q a m l =
       let e = no_next x q a in
@@ -116,7 +117,7 @@ module _ (v : List ℕ) (n : ℕ) where
       wider listing_most (omega (arith, k.count)) (then (reads t k.put) (rw (m ∙ same_rest v n x q ∙ k.rest) at l))
 
 -- a buffer of that many bytes suffices
-pub listed : {d xs e : List ℕ} {r : ℕ} → length d ≡ listing_most → Put listing_most d 0 xs r e → AtStart d xs r e × IsPrefixLen r e
+pub listed : {d xs e : List ℕ} {r : ℕ} → length d ≡ listing_most → PutAt listing_most d 0 xs r e → AtStart d xs r e × IsPrefixLen r e
 listed {e = e} {r = r} h a =
     let s = at-start (omega arith) a in
     let l = start-counts s in

@@ -2,6 +2,7 @@
 use Rattle.std.specs.Prelude.{◌≡◌, refl, List, [], ◌∷◌, ◌++◌, ℕ, zero, suc, ◌+◌, ◌-◌, ◌*◌, ◌/◌, ◌%◌, ◌^◌, ◌≤◌, ◌<◌, length}
 use Rattle.std.proofs.Common.{sym, ap, ◌∙◌, pow-suc, arith, lt-ltb, le-ltb, length-append}
 use Rattle.std.proofs.Math.Decide.{dec_le}
+use Rattle.text.specs.declared.Text.{Text}
 use Rattle.text.specs.Put.{Put}
 use Rattle.text.specs.Decimal.{digit, decimal_by, decimal, decimal_most, value_from}
 use Rattle.text.specs.Laws.Puts.{then, within, reads}
@@ -53,11 +54,11 @@ unfolding decimal
 decimal-short n h = few (suc n) 19 n (omega arith)
 
 -- a number's last digit is put behind the digits of its tenth
-pub number-one : {d e : List ℕ} {at r : ℕ} (n : ℕ) → n < 10 → Put 1 d at (digit n ∷ []) r e → Put decimal_most d at (decimal n) r e
+pub number-one : {t u : Text} (n : ℕ) → n < 10 → Put 1 t (digit n ∷ []) u → Put decimal_most t (decimal n) u
 number-one n h a = within decimal_most (decimal-short n (omega arith)) (reads (sym (decimal-one n h)) a)
 
-pub number_more : {d e f : List ℕ} {at p r : ℕ} (n : ℕ) → 10 ≤ n → n < 2 ^ 64 → Put decimal_most d at (decimal (n / 10)) p e
-    → Put 1 e p (digit (n % 10) ∷ []) r f → Put decimal_most d at (decimal n) r f
+pub number_more : {t u v : Text} (n : ℕ) → 10 ≤ n → n < 2 ^ 64 → Put decimal_most t (decimal (n / 10)) u → Put 1 u (digit (n % 10) ∷ []) v
+    → Put decimal_most t (decimal n) v
 number_more n h fits a b = within decimal_most (decimal-short n fits) (reads (sym (decimal_more n h)) (then a b))
 
 -- ---- the digits say the number

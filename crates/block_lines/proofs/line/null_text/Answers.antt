@@ -6,4 +6,4 @@ use Rattle.block_lines.proofs.line.null_text.Goals as goal
 
 pub returns : goal.returns
 unfolding line_text
-returns c = wider line_most (omega arith) (then c.number-p.ensures c.word.ensures)
+returns c = wider line_most (omega arith) (then c.number.ensures c.word.ensures)

@@ -7,6 +7,6 @@ pub returns : goal.returns
 unfolding line_text
 returns c =
     reads (simp append_assoc)
-    (then c.number-p.ensures
-    (then c.word-q.ensures
-    (then c.space_number-s.ensures (then c.address_text-t.ensures (then c.space_number-u.ensures c.byte.ensures)))))
+    (then c.number.ensures
+    (then c.word.ensures
+    (then c.space_number.ensures (then c.address_text.ensures (then c.space_number-2.ensures c.byte.ensures)))))

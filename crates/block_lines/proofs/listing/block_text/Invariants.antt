@@ -8,7 +8,7 @@ invariant-loop-entry l =
     record {
       block : l.walk.block.now ≡ l.block;
       bits : l.walk.bits ≡ l.bits;
-      written : Written l.block l.bits l.initial.out l.at l.walk.position l.p l.out;
+      written : Written l.block l.bits l.initial.out l.walk.position l.out;
     }
 
 abbrev pub decreases-loop-entry : goal.decreases-loop-entry

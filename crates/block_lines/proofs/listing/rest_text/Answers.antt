@@ -2,4 +2,4 @@ use Rattle.text.specs.Laws.Puts.{then}
 use Rattle.block_lines.proofs.listing.rest_text.Goals as goal
 
 pub returns : goal.returns
-returns c = then c.word-p.ensures (then c.space_number-q.ensures c.byte.ensures)
+returns c = then c.word.ensures (then c.space_number.ensures c.byte.ensures)

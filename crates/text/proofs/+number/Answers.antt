@@ -1,9 +1,0 @@
-use native.Mathlib.Omega.{arith}
-use Rattle.text.specs.Laws.Decimals.{number-one, number_more}
-use Rattle.text.proofs.+number.Goals as goal
-
-pub returns-then-n-lt10 : goal.returns-then-n-lt10
-returns-then-n-lt10 t c = number-one _ (omega arith) c.byte.ensures
-
-pub returns : goal.returns
-returns t c = number_more _ (omega arith) (omega arith) c.number-p.ensures c.byte-2.ensures
