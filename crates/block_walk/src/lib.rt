@@ -49,6 +49,7 @@ fn after_entry(entry: BlockEntry) -> Position
 }
 
 // The step from a bit, and the position after it.
+#[tactic(auto, unfolding(crate::specs::Positions::after, crate::specs::Positions::step_from))]
 fn step_at(block: &[u8], bits: usize, bit: usize) -> WalkStep
     ensures { result ≡ step_from block.now bits (Position.At bit) }
 {

@@ -34,11 +34,11 @@ module _ {m k : ℕ} {t u v : Text} {xs ys : List ℕ} where
       record {
         same = b.same ∙ a.same;
         there =
-          record {
-            place = simp length-append (omega (arith, a.there.place, b.there.place, sized a.there));
-            bytes = b.there.bytes ∙ rw a.there.bytes both;
-            short = simp length-append (omega (arith, a.there.short, b.there.short));
-          };
+            record {
+              place = simp length-append (omega (arith, a.there.place, b.there.place, sized a.there));
+              bytes = b.there.bytes ∙ rw a.there.bytes both;
+              short = simp length-append (omega (arith, a.there.short, b.there.short));
+            };
       }
     where
       d : List ℕ
