@@ -25,6 +25,7 @@ pub struct WalkStep {
     pub answer: Result<Option<BlockEntry>, Refusal>,
 }
 
+#[tactic(auto, unfolding(crate::specs::Positions::after_end))]
 fn after_refused(pdu: RefusedPdu) -> Position
     ensures { result ≡ after_end pdu.bit pdu.end }
 {
@@ -35,6 +36,7 @@ fn after_refused(pdu: RefusedPdu) -> Position
     }
 }
 
+#[tactic(auto, unfolding(crate::specs::Positions::after_entry, crate::specs::Positions::NullFits))]
 fn after_entry(entry: BlockEntry) -> Position
     requires { NullFits entry }
     ensures { result ≡ after_entry entry }
@@ -47,6 +49,7 @@ fn after_entry(entry: BlockEntry) -> Position
 }
 
 // The step from a bit, and the position after it.
+#[tactic(auto, unfolding(crate::specs::Positions::after, crate::specs::Positions::step_from))]
 fn step_at(block: &[u8], bits: usize, bit: usize) -> WalkStep
     ensures { result ≡ step_from block.now bits (Position.At bit) }
 {
@@ -67,6 +70,7 @@ fn step_at(block: &[u8], bits: usize, bit: usize) -> WalkStep
 }
 
 // The step from a position, and the position after it.
+#[tactic(auto, unfolding(crate::specs::Positions::step_from))]
 fn step_from(block: &[u8], bits: usize, position: Position) -> WalkStep
     ensures { result ≡ step_from block.now bits position }
 {
@@ -83,10 +87,7 @@ fn step_from(block: &[u8], bits: usize, position: Position) -> WalkStep
 pub fn bits_between(start: usize, end: usize) -> usize
     ensures { result ≡ end - start }
 {
-    if end < start {
-        return 0;
-    }
-    end - start
+    end.saturating_sub(start)
 }
 
 // How many bits the rest has: those behind the walk that goes on from a position to its end.

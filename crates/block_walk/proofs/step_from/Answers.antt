@@ -1,6 +1,0 @@
-use Rattle.block_walk.specs.Positions.{step_from}
-use Rattle.block_walk.proofs.step_from.Goals as goal
-
-pub returns-in-Ended : goal.returns-in-Ended
-unfolding step_from
-returns-in-Ended c = rw c.in-Ended.is
