@@ -1,21 +1,27 @@
 -- What the code does a byte or a word at a time, in terms of bits.
-use Prim.Native.Nat.{ℕ, suc, ◌+◌, ◌-◌, ◌*◌, ◌/◌, ◌%◌, ◌^◌, ◌≤◌, ◌<◌}
+use Prim.Native.Nat.{ℕ, zero, suc, ◌+◌, ◌-◌, ◌*◌, ◌/◌, ◌%◌, ◌^◌, ◌≤◌, ◌<◌}
 use mathlib.Core.Path.{◌≡◌, refl, sym, ap, ◌∙◌}
 use mathlib.Core.List.{List, ◌∷◌, ◌++◌, append_assoc}
 use mathlib.Core.Bool.{Bool}
-use native.Mathlib.Nat.{zero-add, add-zero, add-sub_of_le, lt_of_lt_of_le, mod-mod, mod-eq_of_lt, mul_assoc, add-mul, add_assoc, pow-zero, div-one, mul-add}
+use native.Mathlib.Nat.{zero-add, add-zero, add-sub_of_le, lt_of_lt_of_le, mod-mod, mod-eq_of_lt, mul_assoc, add-mul, add_assoc, pow-zero, div-one}
 use native.Mathlib.Omega.{arith}
-use lib.ListN.{length, get_or, take, drop, set, length-append, take-append-drop}
+use lib.ListN.{length, get_or, take, drop, set, length-append, length-drop, take-append-drop}
 use lib.Seq.{length-take-le, take_at, drop_at, drop-cons, set_split, split_at, drop-drop}
 use lib.Bits.{bit_or, or_shifted}
 use lib.Pow.{pow-add, pow_mono, high, low, shr_lt, shr_mod}
 use lib.Arith.{digits_lt}
-use Rattle.bits.proofs.Laws.Shifts.{push_is, join_is, shl_is, within-is}
+use Rattle.std.proofs.Common.{add-one}
+use Rattle.std.specs.Int.{w64, from_be_bytes}
+use Rattle.std.proofs.lemmas.Nat.{be_bytes_8}
+use Rattle.std.proofs.lemmas.List.{get_or-drop, get_or-take}
+use Rattle.std.specs.List.{fold}
+use Rattle.std.proofs.lemmas.List.Sums.{fold_more}
+use Rattle.bits.proofs.Laws.Shifts.{push_is, shl_is, within-is}
 use Rattle.bits.specs.Bits.{val, bits_of_nat, bits_of, pack, splice, bits_at, get_bits, put_bits, patch, Leading, Bytes}
 use Rattle.bits.proofs.Laws.Values.{val-append, val_lt, length-bits_of_nat, val-bits_of_nat, bits_of_nat-val, bits_of_nat-add}
-use Rattle.bits.proofs.Laws.Bytes.{bits_of_cons, length_bits_of, bits_of_append, drop_bits_of, bits_of_inj, bytes-set}
+use Rattle.bits.proofs.Laws.Bytes.{bits_of_high_first, bits_of_cons, length_bits_of, bits_of_append, drop_bits_of, bits_of_inj, bytes-take, bytes-set}
 use Rattle.bits.proofs.Laws.Splice.{splice_mid}
-use Rattle.bits.proofs.Laws.Reads.{get_bits_lt, at-is, get_is, bits_at_add, length_bits_at, get_bits-add, get_bits-part}
+use Rattle.bits.proofs.Laws.Reads.{bits_at_bytes, get_bits_lt, get_bits-zero, at-is, get_is, bits_at_add, length_bits_at, get_bits-part}
 use Rattle.bits.proofs.Laws.Writes.{put_is, length-put_bits, bytes-put_bits, bits_of_put_bits, put_bits-append}
 
 pub patch_def : (b k m v : ℕ) → patch b k m v ≡ b / 2 ^ (k + m) * 2 ^ (k + m) + (v % 2 ^ k * 2 ^ m + b % 2 ^ m)
@@ -49,18 +55,26 @@ unfolding get_bits
 get_bits_step s p j i o k m place e h =
     rw (bits_at_add s p j k, val-append, place, bits_at_byte s i o k m e h, length-bits_of_nat, val-bits_of_nat)
 
--- one byte
-pub get_bits_byte : (s : List ℕ) (i : ℕ) → i < length s → get_or s i 0 < 256 → get_bits s (8 * i) 8 ≡ get_or s i 0
+-- eight bytes as a number
+pub word_of_bytes : (s : List ℕ) (i x : ℕ) → i + 8 ≤ length s → Bytes s → x < 2 ^ 64 → x ≡ from_be_bytes w64 (drop i s) → x ≡ get_bits s (8 * i) 64
 unfolding get_bits
-get_bits_byte s i h b =
-    ap val (rw (add-zero, pow-zero, div-one) at (bits_at_byte s i 0 8 0 (omega arith) h)) ∙ val-bits_of_nat 8 (get_or s i 0) ∙ mod-eq_of_lt b
+word_of_bytes s i x h b small e =
+    sym (rw (bits_at_bytes s i 8 h, ← be_bytes_8 (take 8 (drop i s)) x len bytes first, bits_of_high_first 8 x, val-bits_of_nat 64 x) (mod-eq_of_lt small))
+  where
+    long : 8 ≤ length (drop i s)
+    long = omega (arith, length-drop i s)
 
--- n bytes and n bytes more, k bits up
-pub get_bits_double : (s : List ℕ) (i n k : ℕ) → i + (n + n) ≤ length s
-    → bit_or (get_bits s (8 * i) (8 * n) * 2 ^ (k + 8 * n)) (get_bits s (8 * (i + n)) (8 * n) * 2 ^ k) ≡ get_bits s (8 * i) (8 * n + 8 * n) * 2 ^ k
-get_bits_double s i n k h =
-    rw (get_bits-add s (8 * i) (8 * n) (8 * n) (omega arith), mul-add 8 i n)
-    (join_is (get_bits s (8 * i) (8 * n)) (get_bits s (8 * i + 8 * n) (8 * n)) (8 * n) k (get_bits_lt s (8 * i + 8 * n) (8 * n) (omega arith)))
+    len : length (take 8 (drop i s)) ≡ 8
+    len = length-take-le 8 (drop i s) long
+
+    bytes : Bytes (take 8 (drop i s))
+    bytes = bytes-take 8 (drop i s) (λ k. rw get_or-drop (b (i + k)))
+
+    at : (k : ℕ) → k < 8 → get_or (take 8 (drop i s)) k 0 ≡ get_or (drop i s) k 0
+    at k l = get_or-take 8 (drop i s) k 0 l
+
+    first : x ≡ from_be_bytes w64 (take 8 (drop i s))
+    first = rw (at 0 (omega arith), at 1 (omega arith), at 2 (omega arith), at 3 (omega arith), at 4 (omega arith), at 5 (omega arith), at 6 (omega arith), at 7 (omega arith)) e
 
 -- a read within eight bytes
 pub get_bits-word : (s : List ℕ) (i o n m : ℕ) → o + (n + m) ≡ 64 → i + 8 ≤ length s
@@ -80,6 +94,14 @@ get_bits-next s i x e l m b =
     whole =
         rw (e, ← mod-eq_of_lt {n = get_or s i 0} {m = 2 ^ 8} b)
         (sym (rw (pow-zero, div-one, j) at (get_bits_step s 0 (8 * i) i 0 8 0 (omega arith) (omega arith) l)))
+
+-- the first bytes, fewer than eight, pushed one behind the other
+pub get_bits-all : (s : List ℕ) (i : ℕ) → Bytes s → i ≤ length s → i < 8
+    → fold (λ (x b : ℕ). bit_or ((x * 2 ^ 8) % 2 ^ 64) b) 0 (take i s) ≡ get_bits s 0 (8 * i)
+get_bits-all s zero hs l h = sym (get_bits-zero s 0)
+get_bits-all s (suc i) hs l h =
+    rw (← add-one i, fold_more _ _ s i 0 (omega arith))
+    (get_bits-next s i _ (get_bits-all s i hs (omega arith) (omega arith)) (omega arith) (omega arith) (hs i))
 
 -- the number of all bytes, fewer than eight, moved up
 pub leading_all : (s : List ℕ) (p : ℕ) → length s < 8 → p < 8 * length s
@@ -203,44 +225,21 @@ put_bits_byte s i o k m v hs e h =
     old : splice (8 * i + o) (bits_of_nat k v) (bits_of s) ≡ A ++ ((hi ++ (bits_of_nat k v ++ lo)) ++ R)
     old = rw shape (splice_mid (8 * i + o) (A ++ hi) K (bits_of_nat k v) (lo ++ R) lenA lenK ∙ simp append_assoc)
 
--- a write of the low bits of v, of which all but the last k are done, goes on within one byte
+-- a write of the low bits of v is a write of all but the last k of them, and one of those behind it
+pub put_bits-add : (s : List ℕ) (p j k v : ℕ) → p + j ≤ 8 * length s
+    → put_bits (put_bits s p (bits_of_nat j (v / 2 ^ k))) (p + j) (bits_of_nat k v) ≡ put_bits s p (bits_of_nat (j + k) v)
+put_bits-add s p j k v h =
+    let l : length (bits_of_nat j (v / 2 ^ k)) ≡ j = length-bits_of_nat j _ in
+    rw (bits_of_nat-add j k v, ← put_bits-append s p (bits_of_nat j (v / 2 ^ k)) (bits_of_nat k v) (rw l h), l)
+
+-- the same, where the last k lie in one byte
 pub put_bits_step : (s₀ s : List ℕ) (p j i o k m v : ℕ) → s ≡ put_bits s₀ p (bits_of_nat j (v / 2 ^ k)) → p + j ≤ 8 * length s₀
     → p + j ≡ 8 * i + o → o + (k + m) ≡ 8 → i < length s₀
     → set s i (patch (get_or s i 0) k m v) ≡ put_bits s₀ p (bits_of_nat (j + k) v)
 put_bits_step s₀ s p j i o k m v es f place e h =
-    rw (es, bits_of_nat-add j k v)
-    (put_bits_byte (put_bits s₀ p xs) i o k m v (bytes-put_bits s₀ p xs) e (rw length-put_bits h)
-    ∙ ap (λ (q : ℕ). put_bits (put_bits s₀ p xs) q (bits_of_nat k v)) (omega (arith, l))
-    ∙ put_bits-append s₀ p xs (bits_of_nat k v) (omega (arith, l)))
-  where
-    xs : List Bool
-    xs = bits_of_nat j (v / 2 ^ k)
-
-    l : length xs ≡ j
-    l = length-bits_of_nat j (v / 2 ^ k)
-
-pub put_bits-one : (s : List ℕ) (i x : ℕ) → Bytes s → i < length s → set s i (x % 256) ≡ put_bits s (8 * i) (bits_of_nat 8 x)
-put_bits-one s i x hs h =
-    ap (λ (b : ℕ). set s i b) same ∙ put_bits_byte s i 0 8 0 x hs (omega arith) h ∙ ap (λ (q : ℕ). put_bits s q (bits_of_nat 8 x)) (add-zero (8 * i))
-  where
-    same : x % 256 ≡ patch (get_or s i 0) 8 0 x
-    same = unfold patch in (omega (arith, hs i))
-
-pub put_bits_double : (s : List ℕ) (i n x : ℕ) → i + (n + n) ≤ length s
-    → put_bits (put_bits s (8 * i) (bits_of_nat (8 * n) (x / 2 ^ (8 * n)))) (8 * (i + n)) (bits_of_nat (8 * n) x) ≡ put_bits s (8 * i) (bits_of_nat (8 * n + 8 * n) x)
-put_bits_double s i n x h =
-    ap (λ (q : ℕ). put_bits (put_bits s (8 * i) hi) q (bits_of_nat (8 * n) x)) place
-    ∙ put_bits-append s (8 * i) hi (bits_of_nat (8 * n) x) (omega (arith, len))
-    ∙ ap (λ (xs : List Bool). put_bits s (8 * i) xs) (sym (bits_of_nat-add (8 * n) (8 * n) x))
-  where
-    hi : List Bool
-    hi = bits_of_nat (8 * n) (x / 2 ^ (8 * n))
-
-    len : length hi ≡ 8 * n
-    len = length-bits_of_nat (8 * n) (x / 2 ^ (8 * n))
-
-    place : 8 * (i + n) ≡ 8 * i + length hi
-    place = omega (arith, len)
+    rw es
+    (put_bits_byte _ i o k m v (bytes-put_bits s₀ p _) e (let l : i < length (put_bits s₀ p (bits_of_nat j (v / 2 ^ k))) = rw length-put_bits h in l)
+    ∙ rw (← place) (put_bits-add s₀ p j k v f))
 
 -- a part of what is written, where the rest is what was there
 pub splice-part : (q a k b r xs : List Bool) → length xs ≡ length k

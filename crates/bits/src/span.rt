@@ -1,5 +1,4 @@
-// Longer spans of bits, 64 at a time. The callers have decided that the bits are there. A turn ends at a byte of the slice that is
-// written, so that each later one stores a whole word.
+// Longer spans of bits: 64 at a time, then those that are left. The callers have decided that the bits are there.
 ghost use Rattle.std.specs.Prelude.{◌≡◌, ◌+◌, ◌*◌, ◌≤◌, length, replicate};
 ghost use Rattle.bits.specs.Bits.{val, bits_at, put_bits};
 
@@ -9,7 +8,7 @@ use crate::word;
 fn filled(ones: bool) -> u64
     ensures { result ≡ val (replicate 64 ones) }
 {
-    if ones { 18446744073709551615 } else { 0 }
+    if ones { u64::MAX } else { 0 }
 }
 
 // n zeroes or ones put into s from pos on.
@@ -18,12 +17,13 @@ pub fn put_span(s: &mut [u8], pos: usize, n: usize, ones: bool)
     ensures { s.new ≡ put_bits s.old pos (replicate n ones) }
 {
     let full = filled(ones);
-    let mut done: usize = 0;
-    while done < n {
-        let p = pos + done;
-        let k = word::min(n - done, 64 - p % 8);
-        word::put_bits(s, p, k, full >> (64 - k));
-        done += k;
+    let words = n / 64;
+    for i in 0..words {
+        word::put_by_words(s, pos + 64 * i, 64, full);
+    }
+    let k = n % 64;
+    if 0 < k {
+        word::put_bits(s, pos + 64 * words, k, full >> (64 - k));
     }
 }
 
@@ -32,12 +32,12 @@ pub fn copy_span(t: &mut [u8], tpos: usize, s: &[u8], spos: usize, n: usize)
     requires { (tpos + n ≤ 8 * length t.old) × (spos + n ≤ 8 * length s.now) × (tpos + n ≤ 65536) × (spos + n ≤ 65536) }
     ensures { t.new ≡ put_bits t.old tpos (bits_at s.now spos n) }
 {
-    let mut done: usize = 0;
-    while done < n {
-        let p = tpos + done;
-        let k = word::min(n - done, 64 - p % 8);
-        let x = word::get_bits(s, spos + done, k);
-        word::put_bits(t, p, k, x);
-        done += k;
+    let words = n / 64;
+    for i in 0..words {
+        let x = word::get_bits(s, spos + 64 * i, 64);
+        word::put_by_words(t, tpos + 64 * i, 64, x);
     }
+    let k = n % 64;
+    let rest = word::get_bits(s, spos + 64 * words, k);
+    word::put_bits(t, tpos + 64 * words, k, rest);
 }

@@ -5,7 +5,7 @@ ghost use Rattle.bits.specs.Bits.{get_bits, put_bits, bits_of_nat, patch, Leadin
 pub fn min(a: usize, b: usize) -> usize
     ensures { result ≡ min a b }
 {
-    if a < b { a } else { b }
+    a.min(b)
 }
 
 // 2 ^ k - 1
@@ -27,40 +27,27 @@ fn byte_replaced(b: u8, k: usize, m: usize, v: u64) -> u8
     ((wide - old) + ((v & ones) << m)) as u8
 }
 
-// One, two and four bytes from at on as a number, k bits up. Each byte is shifted once, so that the compiler makes one load of eight.
-fn load1(s: &[u8], at: usize, k: usize) -> u64
-    requires { (at < length s.now) × (k ≤ 56) }
-    ensures { result ≡ get_bits s.now (8 * at) 8 * 2 ^ k }
-{
-    widen(s[at]) << k
-}
-
-fn load2(s: &[u8], at: usize, k: usize) -> u64
-    requires { (at + 2 ≤ length s.now) × (k ≤ 48) }
-    ensures { result ≡ get_bits s.now (8 * at) 16 * 2 ^ k }
-{
-    load1(s, at, k + 8) | load1(s, at + 1, k)
-}
-
-fn load4(s: &[u8], at: usize, k: usize) -> u64
-    requires { (at + 4 ≤ length s.now) × (k ≤ 32) }
-    ensures { result ≡ get_bits s.now (8 * at) 32 * 2 ^ k }
-{
-    load2(s, at, k + 16) | load2(s, at + 2, k)
-}
-
 // Eight bytes from at on as a number.
 fn load8(s: &[u8], at: usize) -> u64
     requires { at + 8 ≤ length s.now }
     ensures { result ≡ get_bits s.now (8 * at) 64 }
 {
-    load4(s, at, 32) | load4(s, at + 4, 0)
+    u64::from_be_bytes([
+        s[at],
+        s[at + 1],
+        s[at + 2],
+        s[at + 3],
+        s[at + 4],
+        s[at + 5],
+        s[at + 6],
+        s[at + 7],
+    ])
 }
 
 pub fn widen(x: u8) -> u64
     ensures { result ≡ x }
 {
-    x as u64
+    u64::from(x)
 }
 
 // The n bits of x after its o high bits.
@@ -76,7 +63,7 @@ fn word_start(len: usize, pos: usize) -> usize
     requires { 8 ≤ len }
     ensures { result ≡ min (pos / 8) (len - 8) }
 {
-    min(pos / 8, len - 8)
+    (pos / 8).min(len - 8)
 }
 
 // All bytes of a slice that is shorter than a word, as a number.
@@ -84,13 +71,7 @@ fn load_all(s: &[u8]) -> u64
     requires { length s.now < 8 }
     ensures { result ≡ get_bits s.now 0 (8 * length s.now) }
 {
-    let mut all: u64 = 0;
-    let mut i: usize = 0;
-    while i < s.len() {
-        all = (all << 8) | widen(s[i]);
-        i += 1;
-    }
-    all
+    s.iter().fold(0, |all, &b| (all << 8) | u64::from(b))
 }
 
 // The bits from pos on, from a word's highest bit down: 64 of them, or those to the end of s.
@@ -106,7 +87,7 @@ pub fn get_ahead(s: &[u8], pos: usize) -> u64
     let o = pos - 8 * at;
     let x = load8(s, at) << o;
     if at + 8 < len {
-        return x | (widen(s[at + 8]) >> (8 - o));
+        return x | (u64::from(s[at + 8]) >> (8 - o));
     }
     x
 }
@@ -122,60 +103,12 @@ pub fn get_bits(s: &[u8], pos: usize, n: usize) -> u64
     get_ahead(s, pos) >> (64 - n)
 }
 
-// The n low bits of v put into s from pos on.
-fn put_by_bytes(s: &mut [u8], pos: usize, n: usize, v: u64)
-    requires { (pos + n ≤ 8 * length s.old) × (n ≤ 64) × (pos ≤ 65536) }
-    ensures { s.new ≡ put_bits s.old pos (bits_of_nat n v) }
-{
-    let mut done: usize = 0;
-    while done < n {
-        let p = pos + done;
-        let at = p / 8;
-        let room = 8 - p % 8;
-        let k = min(n - done, room);
-        let b = s[at];
-        s[at] = byte_replaced(b, k, room - k, v >> (n - done - k));
-        done += k;
-    }
-}
-
-// The low byte of x.
-fn low8(x: u64) -> u8
-    ensures { result ≡ x % 256 }
-{
-    (x % 256) as u8
-}
-
-// One, two, four and eight bytes of x put into s from at on.
-fn store1(s: &mut [u8], at: usize, x: u64)
-    requires { at < length s.old }
-    ensures { s.new ≡ put_bits s.old (8 * at) (bits_of_nat 8 x) }
-{
-    s[at] = low8(x);
-}
-
-fn store2(s: &mut [u8], at: usize, x: u64)
-    requires { at + 2 ≤ length s.old }
-    ensures { s.new ≡ put_bits s.old (8 * at) (bits_of_nat 16 x) }
-{
-    store1(s, at, x >> 8);
-    store1(s, at + 1, x);
-}
-
-fn store4(s: &mut [u8], at: usize, x: u64)
-    requires { at + 4 ≤ length s.old }
-    ensures { s.new ≡ put_bits s.old (8 * at) (bits_of_nat 32 x) }
-{
-    store2(s, at, x >> 16);
-    store2(s, at + 2, x);
-}
-
+// The eight bytes of x put into s from at on.
 fn store8(s: &mut [u8], at: usize, x: u64)
     requires { at + 8 ≤ length s.old }
     ensures { s.new ≡ put_bits s.old (8 * at) (bits_of_nat 64 x) }
 {
-    store4(s, at, x >> 32);
-    store4(s, at + 4, x);
+    s[at..at + 8].copy_from_slice(&x.to_be_bytes());
 }
 
 // The word x with v in the place of the n bits after its o high bits.
@@ -218,7 +151,25 @@ fn put_in_byte(s: &mut [u8], pos: usize, n: usize, v: u64)
     s[at] = byte_replaced(b, n, 8 - pos % 8 - n, v);
 }
 
-// As put_by_bytes, by whole words where there are eight bytes.
+// The n low bits of v put into s from pos on.
+fn put_by_bytes(s: &mut [u8], pos: usize, n: usize, v: u64)
+    requires { (pos + n ≤ 8 * length s.old) × (n ≤ 64) × (pos ≤ 65536) }
+    ensures { s.new ≡ put_bits s.old pos (bits_of_nat n v) }
+{
+    let mut done: usize = 0;
+    while done < n {
+        let p = pos + done;
+        let at = p / 8;
+        let room = 8 - p % 8;
+        let k = min(n - done, room);
+        let b = s[at];
+        s[at] = byte_replaced(b, k, room - k, v >> (n - done - k));
+        done += k;
+    }
+}
+
+// As put_by_bytes, by whole words where there are eight bytes. It has many callers, and is too long to be copied into one of them.
+#[inline(never)]
 pub fn put_by_words(s: &mut [u8], pos: usize, n: usize, v: u64)
     requires { (pos + n ≤ 8 * length s.old) × (n ≤ 64) × (pos ≤ 65536) × (v < 2 ^ n) × (0 < n) }
     ensures { s.new ≡ put_bits s.old pos (bits_of_nat n v) }

@@ -1,8 +1,10 @@
 -- The bits of bytes, and bytes out of bits.
-use Rattle.std.specs.Prelude.{ℕ, zero, suc, ◌*◌, ◌≤◌, ◌<◌, ◌≡◌, refl, [], List, ◌∷◌, ◌++◌, Bool, length, take, drop, set}
-use Rattle.std.proofs.Common.{sym, ap, ap₂, ◌∙◌, append_assoc, mod-eq_of_lt, lt_of_lt_of_le, arith, length-append, length-take, length-drop, take-append-drop, length-take-le, take_at, drop_at, pow_mono}
+use Rattle.std.specs.Prelude.{ℕ, zero, suc, ◌+◌, ◌*◌, ◌/◌, ◌%◌, ◌^◌, ◌≤◌, ◌<◌, ◌≡◌, refl, [], List, ◌∷◌, ◌++◌, Bool, length, take, drop, set}
+use Rattle.std.proofs.Common.{sym, ap, ap₂, ◌∙◌, append_assoc, pow-add, pow-suc, mod-eq_of_lt, lt_of_lt_of_le, arith, length-append, length-take, length-drop, take-append-drop, length-take-le, take_at, drop_at, pow_mono}
+use native.Mathlib.Nat.{pow-zero, div-one, mod-mod}
+use Rattle.std.specs.Int.{byte_at, bytes_high_first}
 use Rattle.bits.specs.Bits.{val, bits_of_nat, bits_of, pack, Bytes}
-use Rattle.bits.proofs.Laws.Values.{val_lt, length-bits_of_nat, val-bits_of_nat, bits_of_nat-val}
+use Rattle.bits.proofs.Laws.Values.{val_lt, bits-zero, bits_of_nat-add, bits_of_nat-mod, length-bits_of_nat, val-bits_of_nat, bits_of_nat-val}
 
 pub bits_of_nil : bits_of [] ≡ []
 unfolding bits_of
@@ -88,9 +90,35 @@ bits_of_inj s t hs ht e =
     same : length s ≡ length t
     same = omega (arith, length_bits_of s, length_bits_of t, ap length e)
 
+pub bytes-take : (n : ℕ) (s : List ℕ) → Bytes s → Bytes (take n s)
+bytes-take zero s h i = omega arith
+bytes-take (suc n) [] h i = omega arith
+bytes-take (suc n) (a ∷ s) h zero = h 0
+bytes-take (suc n) (a ∷ s) h (suc i) = bytes-take n s (λ j. h (suc j)) i
+
 pub bytes-set : (s : List ℕ) (i x : ℕ) → Bytes s → x < 256 → Bytes (set s i x)
 bytes-set [] i x hs hx j = hs j
 bytes-set (a ∷ s) zero x hs hx zero = hx
 bytes-set (a ∷ s) zero x hs hx (suc j) = hs (suc j)
 bytes-set (a ∷ s) (suc i) x hs hx zero = hs 0
 bytes-set (a ∷ s) (suc i) x hs hx (suc j) = bytes-set s i x (λ l. hs (suc l)) hx j
+
+bytes_pow : (k : ℕ) → 2 ^ (8 * k) ≡ 256 ^ k
+bytes_pow zero = refl
+bytes_pow (suc k) = let e : 8 * suc k ≡ 8 * k + 8 = omega arith in rw (e, pow-add 2 (8 * k) 8, bytes_pow k, pow-suc 256 k)
+
+byte_at-is : (k x : ℕ) → byte_at k x ≡ x / 2 ^ (8 * k) % 256
+byte_at-is zero x = rw (pow-zero, div-one)
+byte_at-is (suc k) x = rw bytes_pow
+
+-- the bytes of a number, most significant first
+pub bits_of_high_first : (k x : ℕ) → bits_of (bytes_high_first k x) ≡ bits_of_nat (8 * k) x
+bits_of_high_first zero x = rw (bits_of_nil, bits-zero)
+bits_of_high_first (suc k) x =
+    rw (bits_of_cons, bits_of_high_first k x, bits_of_nat-mod 8 (byte_at k x) (x / 2 ^ (8 * k)) same, ← bits_of_nat-add 8 (8 * k) x, e)
+  where
+    e : 8 + 8 * k ≡ 8 * suc k
+    e = omega arith
+
+    same : byte_at k x % 2 ^ 8 ≡ x / 2 ^ (8 * k) % 2 ^ 8
+    same = rw (byte_at-is, mod-mod)

@@ -4,7 +4,7 @@ use Rattle.std.proofs.Common.{mul_assoc, add-mul, add_assoc, arith, length-drop,
 use Rattle.std.proofs.Math.Pow.{high, low}
 use Rattle.bits.specs.Bits.{val, bits_of_nat, bits_of, bits_at, get_bits}
 use Rattle.bits.proofs.Laws.Values.{val-nil, val-append, val_lt, bits_of_nat-val}
-use Rattle.bits.proofs.Laws.Bytes.{length_bits_of}
+use Rattle.bits.proofs.Laws.Bytes.{length_bits_of, take_bits_of, drop_bits_of}
 
 pub at-is : (s : List ℕ) (p n : ℕ) → bits_at s p n ≡ take n (drop p (bits_of s))
 unfolding bits_at
@@ -58,3 +58,8 @@ bits_at_zero s p = refl
 pub get_bits-zero : (s : List ℕ) (p : ℕ) → get_bits s p 0 ≡ 0
 unfolding get_bits
 get_bits-zero s p = rw (bits_at_zero s p) val-nil
+
+-- whole bytes that are read
+pub bits_at_bytes : (s : List ℕ) (i n : ℕ) → i + n ≤ length s → bits_at s (8 * i) (8 * n) ≡ bits_of (take n (drop i s))
+unfolding bits_at
+bits_at_bytes s i n h = rw (drop_bits_of i s (omega arith), take_bits_of n (drop i s) (omega (arith, length-drop i s)))

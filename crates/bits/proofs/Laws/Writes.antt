@@ -4,10 +4,11 @@ use Rattle.std.proofs.Math.Path.{sym}
 use Rattle.std.proofs.Common.{ap, ◌∙◌, mod-eq_of_lt, arith, length-take-le, take-take, drop_at, take-add}
 use mathlib.Core.List.{[], List, ◌++◌}
 use Rattle.std.proofs.Math.ListN.{length, drop, length-drop}
+use borrow.Rule.Slice.PartMut.{put_mid}
 use Rattle.std.proofs.Math.Seq.{drop-drop}
 use Rattle.bits.specs.Bits.{val, bits_of_nat, bits_of, pack, splice, bits_at, get_bits, put_bits, Bytes}
 use Rattle.bits.proofs.Laws.Values.{length-bits_of_nat, val-bits_of_nat}
-use Rattle.bits.proofs.Laws.Bytes.{length_bits_of, length-pack, bits_of_pack, pack_bits_of, bytes-pack}
+use Rattle.bits.proofs.Laws.Bytes.{length_bits_of, bits_of_append, take_bits_of, drop_bits_of, length-pack, bits_of_pack, pack_bits_of, bits_of_inj, bytes-pack}
 use Rattle.bits.proofs.Laws.Splice.{length-splice, splice-nil, splice-append, splice_at, splice-after}
 
 pub put_is : (s : List ℕ) (p : ℕ) (xs : List Bool) → put_bits s p xs ≡ pack (length s) (splice p xs (bits_of s))
@@ -42,6 +43,20 @@ put_bits-append s p xs ys h =
       splice-append p xs ys (bits_of s) (omega (arith, length_bits_of s)),
       put_is s p (xs ++ ys),
     )
+
+-- whole bytes that are written
+pub put_bytes : (s ys : List ℕ) (i k : ℕ) → k ≡ length ys → i + k ≤ length s → Bytes (put_mid i k s ys) → put_mid i k s ys ≡ put_bits s (8 * i) (bits_of ys)
+put_bytes s ys i k e l h =
+    bits_of_inj _ _ h (bytes-put_bits s (8 * i) (bits_of ys))
+    (new ∙ sym (bits_of_put_bits s (8 * i) (bits_of ys) (omega (arith, length_bits_of ys))))
+  where
+    places : 8 * (i + k) ≡ 8 * i + length (bits_of ys)
+    places = omega (arith, length_bits_of ys)
+
+    new : bits_of (put_mid i k s ys) ≡ splice (8 * i) (bits_of ys) (bits_of s)
+    new =
+        unfold splice in
+        (rw (bits_of_append, bits_of_append, ← take_bits_of i s (omega arith), drop-drop k i s, ← drop_bits_of (i + k) s (omega arith), places))
 
 -- a part of what two lists share
 take-drop : (q m : ℕ) (l : List Bool) → q ≤ length l → take m (drop q l) ≡ drop q (take (q + m) l)

@@ -1,36 +1,37 @@
-use Prim.Native.Nat.{ℕ, ◌-◌, ◌/◌, ◌^◌}
-use mathlib.Core.Path.{◌≡◌, refl, sym, ap, ◌∙◌}
+use Prim.Native.Nat.{◌+◌, ◌-◌, ◌*◌, ◌/◌, ◌%◌, ◌^◌}
+use mathlib.Core.Path.{◌≡◌, sym}
 use native.Mathlib.Omega.{arith}
-use borrow.Author.Rules.{rules}
 use lib.ListN.{replicate}
-use Rattle.bits.specs.Bits.{val, put_bits}
-use Rattle.bits.proofs.Laws.Writes.{length-put_bits, put_bits-nil}
-use Rattle.bits.proofs.Laws.Spans.{alike, alike_lt, span_turn}
-use Rattle.bits.proofs.span.put_span.Goals.{After-min-k}
+use Rattle.bits.specs.Bits.{val}
+use Rattle.bits.proofs.Laws.Writes.{put_bits-nil}
+use Rattle.bits.proofs.Laws.Spans.{alike, alike_lt, alike-bits, span_turn}
+use Rattle.bits.proofs.span.put_span.Goals.{After-filled-full}
 use Rattle.bits.proofs.span.put_span.Goals as goal
 
-pub loop-done-init : goal.loop-done-init
-loop-done-init c = (search rules, refl, sym (put_bits-nil _ _ (λ i. omega (arith, c.type_inv.s i))))
+pub loop-i-init : goal.loop-i-init
+loop-i-init c = sym (put_bits-nil _ _ (λ i. omega (arith, c.type_inv.s i)))
 
--- the value of the turn
-value : (c : After-min-k)
-    → c.filled-full.result / 2 ^ (64 - c.min-k.result) ≡ val (replicate c.min-k.result c.args.ones)
-value c = rw c.filled-full.ensures (alike _ 64 c.min-k.result _ (omega arith))
+pub loop-i-preserved : goal.loop-i-preserved
+loop-i-preserved c =
+    let a = c.args in
+    let done = 64 * c.loop-i.i in
+    let next : 64 * (c.loop-i.i + 1) ≡ done + 64 = omega arith in
+    rw (c.put_by_words.ensures, next, c.filled-full.ensures, alike-bits, c.loop-i.invariant) (span_turn a.ones a.s.now a.pos done 64 (omega arith))
+
+-- the bits behind the words
+rest : (c : After-filled-full) → c.filled-full.result / 2 ^ (64 - c.args.n % 64) ≡ val (replicate (c.args.n % 64) c.args.ones)
+rest c = rw c.filled-full.ensures (alike _ 64 (c.args.n % 64) _ (omega arith))
 
 pub put_bits-requires : goal.put_bits-requires
-put_bits-requires c = (omega arith, omega arith, omega arith, rw (value (goal.at.put_bits-requires c).After-min-k) (alike_lt _ c.min-k.result))
+put_bits-requires c =
+    (omega arith, omega arith, omega arith, rw (rest (goal.at.put_bits-requires c).After-filled-full) (alike_lt _ (c.args.n % 64)))
 
-pub loop-done-preserved : goal.loop-done-preserved
-loop-done-preserved c =
-    let l = c.loop-done in
-    let a = c.args in (
-      omega arith,
-      rw (c.put_bits.ensures, length-put_bits) l.invariant.1,
-      c.put_bits.ensures ∙ span_turn a.ones a.s.now l.s a.pos l.done c.min-k.result _ l.invariant.2 (value (goal.at.loop-done-preserved c).After-min-k) (omega arith),
-    )
-
-pub returns : goal.returns
-returns c =
+pub returns-then-k-gt0 : goal.returns-then-k-gt0
+returns-then-k-gt0 c =
     let a = c.args in
-    let e : c.loop-done.done ≡ a.n = omega arith in
-    c.loop-done.invariant.2 ∙ ap (λ (j : ℕ). put_bits a.s.now a.pos (replicate j a.ones)) e
+    let done = 64 * (a.n / 64) in
+    let k = a.n % 64 in
+    let last : c.loop-i.i ≡ a.n / 64 = omega arith in
+    let all : done + k ≡ a.n = omega arith in
+    rw (c.put_bits.ensures, rest (goal.at.returns-then-k-gt0 c).After-filled-full, alike-bits, rw last at c.loop-i.invariant)
+    (rw all at (span_turn a.ones a.s.now a.pos done k (omega arith)))

@@ -17,8 +17,8 @@ pub returns-then-at-len : goal.returns-then-at-len
 returns-then-at-len c =
     let a = c.args in
     let at = c.word_start-at.result in
-    rw (c.widen.ensures, c.load8.ensures)
-    (rw (add-sub_of_le (inside (goal.at.returns-then-at-len c).After-word_start-at)) at (leading_nine a.s.now at (a.pos - 8 * at) (omega arith) (omega arith) (omega (arith, c.shared_slice_known-1.given (at + 8)))))
+    rw (c.from.ensures, c.load8.ensures)
+    (rw (add-sub_of_le (inside (goal.at.returns-then-at-len c).After-word_start-at)) at (leading_nine a.s.now at (a.pos - 8 * at) (omega arith) (omega arith) (omega (arith, c.type_inv.s (at + 8)))))
 
 pub returns : goal.returns
 returns c =

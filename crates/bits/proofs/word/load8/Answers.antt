@@ -1,10 +1,10 @@
 use native.Mathlib.Omega.{arith}
-use mathlib.Core.Path.{◌∙◌}
-use native.Mathlib.Nat.{mul-one}
-use Rattle.bits.proofs.Words.{get_bits_double}
+use native.Mathlib.Nat.{add-zero}
+use Rattle.std.proofs.lemmas.List.{get_or-drop}
+use Rattle.bits.proofs.Words.{word_of_bytes}
 use Rattle.bits.proofs.word.load8.Goals as goal
 
 pub returns : goal.returns
 returns c =
     let a = c.args in
-    rw (c.load4.ensures, c.load4-2.ensures) (get_bits_double a.s.now a.at 4 0 (omega arith) ∙ mul-one _)
+    word_of_bytes a.s.now a.at _ (omega arith) (λ i. omega (arith, c.type_inv.s i)) (omega arith) (simp (get_or-drop, add-zero) c.from_be_bytes.ensures)

@@ -1,4 +1,5 @@
 use native.Mathlib.Omega.{arith}
+use borrow.Author.Rules.{rules}
 use mathlib.Core.Path.{◌≡◌, ap, ◌∙◌}
 use Prim.Native.Nat.{ℕ, ◌+◌, ◌-◌, ◌*◌, ◌/◌, ◌%◌}
 use Rattle.bits.specs.Bits.{put_bits, bits_of_nat}
@@ -11,5 +12,5 @@ returns c =
     let e : 8 * (a.pos / 8) + a.pos % 8 ≡ a.pos = omega arith in
     rw c.byte_replaced.ensures
     (put_bits_byte a.s.now (a.pos / 8) (a.pos % 8) a.n (8 - a.pos % 8 - a.n) a.v
-    (λ i. omega (arith, c.slice_known-1.given i)) (omega arith) (omega arith)
+    (search rules) (omega arith) (omega arith)
     ∙ ap (λ (p : ℕ). put_bits a.s.now p (bits_of_nat a.n a.v)) e)

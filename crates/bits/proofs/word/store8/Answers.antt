@@ -1,13 +1,15 @@
+use Prim.Native.Nat.{◌+◌, ◌-◌}
+use mathlib.Core.Path.{◌≡◌, ◌∙◌}
 use native.Mathlib.Omega.{arith}
-use Rattle.bits.specs.Bits.{put_bits, bits_of_nat}
-use mathlib.Core.Path.{ap, ◌∙◌}
-use mathlib.Core.List.{List}
-use Prim.Native.Nat.{ℕ, ◌+◌, ◌*◌}
-use Rattle.bits.proofs.Words.{put_bits_double}
+use borrow.Author.Rules.{rules}
+use Rattle.std.specs.Int.{bytes_high_first}
+use Rattle.bits.proofs.Laws.Writes.{put_bytes}
+use Rattle.bits.proofs.Laws.Bytes.{bits_of_high_first}
 use Rattle.bits.proofs.word.store8.Goals as goal
 
 pub returns : goal.returns
 returns c =
     let a = c.args in
-    c.store4-2.ensures ∙ ap (λ (l : List ℕ). put_bits l (8 * (a.at + 4)) (bits_of_nat 32 a.x)) c.store4.ensures
-    ∙ put_bits_double a.s.now a.at 4 a.x (omega arith)
+    let ys : c.copy_from_slice.new.self ≡ bytes_high_first 8 a.x = search rules in
+    put_bytes a.s.now c.copy_from_slice.new.self a.at (a.at + 8 - a.at) (omega arith) (omega arith) (λ i. omega (arith, c.type_inv.s i))
+    ∙ rw (ys, bits_of_high_first 8 a.x)

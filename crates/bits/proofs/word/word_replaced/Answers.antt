@@ -4,7 +4,6 @@ use Prim.Native.Nat.{◌-◌, ◌*◌, ◌/◌, ◌%◌, ◌^◌}
 use Rattle.bits.proofs.Laws.Shifts as nums
 use native.Mathlib.Nat.{mod-lt}
 use lib.Pow.{shl_exact, pow_pos}
-use Prim.Native.Nat.{◌<◌}
 use Rattle.bits.proofs.word.word_replaced.Goals.{After-word_field-old}
 use Rattle.bits.proofs.word.word_replaced.Goals as goal
 
@@ -16,22 +15,13 @@ old-shl c =
     rw c.word_field-old.ensures
     (shl_exact {a = a.x / 2 ^ (64 - a.o - a.n) % 2 ^ a.n} a.n (64 - a.o - a.n) 64 (mod-lt _ (pow_pos a.n)) (omega arith))
 
-value : goal.returns
-value c =
+pub returns : goal.returns
+returns c =
     let a = c.args in
     rw (old-shl c, shl_exact {a = a.v} a.n (64 - a.o - a.n) 64 c.requires.2 (omega arith))
     (nums.replaced_is a.x a.n (64 - a.o - a.n) a.v c.requires.2)
 
-a_x : (c : After-word_field-old) → c.args.x < 2 ^ 64
-a_x c = c.ranges.x.fits
-
-pub overflow_sub-result : goal.overflow_sub-result
-overflow_sub-result c = rw (old-shl c) (nums.field_le _ _ _)
-
 pub overflow_add-result : goal.overflow_add-result
 overflow_add-result c =
     let a = c.args in
-    record { fits = rw (value c) (nums.replaced_lt a.x a.o a.n (64 - a.o - a.n) a.v (omega arith) (a_x c)) }
-
-pub returns : goal.returns
-returns c = value c
+    record { fits = rw (returns c) (nums.replaced_lt a.x a.o a.n (64 - a.o - a.n) a.v (omega arith) c.ranges.x.fits) }
