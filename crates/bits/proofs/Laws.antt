@@ -12,7 +12,7 @@
 --         put_bytes        whole bytes put in the place of others are a write of their bits
 --         bits_at_put_bits  what was written is read, bits_at_inside: any part of it; bits_at_after: what is behind it is as it was
 -- Shifts  one_shl, within-is, replaced_is, ..  what shifts and masks are in plain arithmetic
--- Spans   goes_on          a write that the code does 64 bits a turn; span_turn, copy_turn of bits that are alike, and of bits that are read
+-- Spans   goes_on          a write that the code does 64 bits a turn; span_grows, copy_grows of bits that are alike, and of bits that are read
 pub mod Values
 pub mod Bytes
 pub mod Splice

@@ -1,6 +1,6 @@
 -- What the code's shifts and masks are in plain arithmetic. `a << k` is `a * 2 ^ k % 2 ^ 64`, `a >> k` is `a / 2 ^ k`.
 use Rattle.std.specs.Prelude.{ℕ, ◌+◌, ◌-◌, ◌*◌, ◌/◌, ◌%◌, ◌^◌, ◌≤◌, ◌<◌, ◌≡◌}
-use Rattle.std.proofs.Common.{sym, ap, ◌∙◌, add-zero, one-mul, mod-lt, mod-eq_of_lt, arith, pow_pos, pow-add, shl_exact, shr-shr, shr_lt}
+use Rattle.std.proofs.Common.{sym, ap, ◌∙◌, add_comm, add-zero, add-mul, mul_assoc, one-mul, mod-lt, mod-eq_of_lt, arith, shl_lt, pow_pos, pow-add, shl_exact, shr-shr, shr_lt}
 use Rattle.std.proofs.Math.Nat.{mod-mod}
 use Rattle.std.specs.Int.Bits.{bit_and, bit_or}
 use Rattle.std.proofs.lemmas.Nat.{and_mask, or_shifted, shl-shr, mod-pow-add}
@@ -30,6 +30,12 @@ shl_is x o h =
 pub push_is : (acc k x : ℕ) → x < 2 ^ k → acc * 2 ^ k + x < 2 ^ 64 → bit_or ((acc * 2 ^ k) % 2 ^ 64) x ≡ acc * 2 ^ k + x
 push_is acc k x hx h =
     ap (λ (y : ℕ). bit_or y x) (mod-eq_of_lt {n = acc * 2 ^ k} {m = 2 ^ 64} (omega arith)) ∙ or_shifted acc k x hx
+
+-- (a << (k + n)) | (b << k)
+pub join_is : (a b n k : ℕ) → b < 2 ^ n → bit_or (a * 2 ^ (k + n)) (b * 2 ^ k) ≡ (a * 2 ^ n + b) * 2 ^ k
+join_is a b n k h =
+    rw (add_comm k n, or_shifted a (n + k) (b * 2 ^ k) (shl_lt n k h), pow-add 2 n k, ← mul_assoc)
+    (sym (add-mul (a * 2 ^ n) b (2 ^ k)))
 
 -- (x << o) >> (64 - n)
 pub within-is : (x o n : ℕ) → o + n ≤ 64 → (x * 2 ^ o) % 2 ^ 64 / 2 ^ (64 - n) ≡ x / 2 ^ (64 - o - n) % 2 ^ n

@@ -1,10 +1,11 @@
 -- What the code does 64 bits a turn, in terms of bits.
-use Rattle.std.specs.Prelude.{ℕ, ◌+◌, ◌*◌, ◌/◌, ◌^◌, ◌≤◌, ◌<◌, ◌≡◌, List, ◌++◌, Bool, length, replicate}
+use Rattle.std.specs.Prelude.{ℕ, ◌+◌, ◌*◌, ◌/◌, ◌^◌, ◌≤◌, ◌<◌, ◌≡◌, refl, List, ◌++◌, Bool, length, replicate}
+use Rattle.std.proofs.Common.{arith}
 use Rattle.std.proofs.lemmas.List.{length-replicate, replicate-append-replicate}
 use Rattle.std.proofs.Math.Pow.{high}
-use Rattle.bits.specs.Bits.{val, bits_of_nat, bits_at, put_bits}
+use Rattle.bits.specs.Bits.{val, bits_of_nat, bits_at, get_bits, put_bits}
 use Rattle.bits.proofs.Laws.Values.{val-append, val_lt, bits_of_nat-val}
-use Rattle.bits.proofs.Laws.Reads.{bits_at_add, length_bits_at}
+use Rattle.bits.proofs.Laws.Reads.{get_is, bits_of_nat-get_bits, bits_at_add, length_bits_at}
 use Rattle.bits.proofs.Laws.Writes.{put_bits-append}
 
 -- a write of which the bits xs are done goes on by the bits ys, which the code has as a number
@@ -25,15 +26,26 @@ pub alike-bits : (b : Bool) (k : ℕ) → bits_of_nat k (val (replicate k b)) �
 alike-bits b k = rw length-replicate at (bits_of_nat-val (replicate k b))
 
 -- j bits that are all b, and k more
-pub span_turn : (b : Bool) (s : List ℕ) (p j k : ℕ) → p + j ≤ 8 * length s
+pub span_turn : (b : Bool) (s₀ s : List ℕ) (p j k v : ℕ) → s ≡ put_bits s₀ p (replicate j b) → v ≡ val (replicate k b) → p + j ≤ 8 * length s₀
+    → put_bits s (p + j) (bits_of_nat k v) ≡ put_bits s₀ p (replicate (j + k) b)
+span_turn b s₀ s p j k v es ev h =
+    rw (← replicate-append-replicate j k b)
+    (goes_on s₀ s p j k v (replicate j b) (replicate k b) es (length-replicate j b) (length-replicate k b) ev h)
+
+-- the same of what a write left
+pub span_grows : (b : Bool) (s : List ℕ) (p j k : ℕ) → p + j ≤ 8 * length s
     → put_bits (put_bits s p (replicate j b)) (p + j) (replicate k b) ≡ put_bits s p (replicate (j + k) b)
-span_turn b s p j k h =
-    let l : length (replicate j b) ≡ j = length-replicate j b in
-    rw (← replicate-append-replicate j k b, ← put_bits-append s p (replicate j b) (replicate k b) (rw l h), l)
+span_grows b s p j k h = rw alike-bits at (span_turn b s (put_bits s p (replicate j b)) p j k (val (replicate k b)) refl refl h)
 
 -- j bits of u from q on, and k more
-pub copy_turn : (u s : List ℕ) (p q j k : ℕ) → p + j ≤ 8 * length s → q + j ≤ 8 * length u
+pub copy_turn : (u s₀ s : List ℕ) (p q j k v : ℕ) → s ≡ put_bits s₀ p (bits_at u q j) → v ≡ get_bits u (q + j) k → p + j ≤ 8 * length s₀
+    → q + (j + k) ≤ 8 * length u → put_bits s (p + j) (bits_of_nat k v) ≡ put_bits s₀ p (bits_at u q (j + k))
+copy_turn u s₀ s p q j k v es ev h l =
+    rw (bits_at_add u q j k)
+    (goes_on s₀ s p j k v (bits_at u q j) (bits_at u (q + j) k) es (length_bits_at u q j (omega arith)) (length_bits_at u (q + j) k (omega arith)) (rw (← get_is) ev) h)
+
+-- the same of what a write left
+pub copy_grows : (u s : List ℕ) (p q j k : ℕ) → p + j ≤ 8 * length s → q + (j + k) ≤ 8 * length u
     → put_bits (put_bits s p (bits_at u q j)) (p + j) (bits_at u (q + j) k) ≡ put_bits s p (bits_at u q (j + k))
-copy_turn u s p q j k h g =
-    let l : length (bits_at u q j) ≡ j = length_bits_at u q j g in
-    rw (bits_at_add u q j k, ← put_bits-append s p (bits_at u q j) (bits_at u (q + j) k) (rw l h), l)
+copy_grows u s p q j k h l =
+    rw (bits_of_nat-get_bits u (q + j) k (omega arith)) at (copy_turn u s (put_bits s p (bits_at u q j)) p q j k (get_bits u (q + j) k) refl refl h l)

@@ -4,7 +4,7 @@ use native.Mathlib.Omega.{arith}
 use lib.ListN.{replicate}
 use Rattle.bits.specs.Bits.{val}
 use Rattle.bits.proofs.Laws.Writes.{put_bits-nil}
-use Rattle.bits.proofs.Laws.Spans.{alike, alike_lt, alike-bits, span_turn}
+use Rattle.bits.proofs.Laws.Spans.{alike, alike_lt, alike-bits, span_grows}
 use Rattle.bits.proofs.span.put_span.Goals.{After-filled-full}
 use Rattle.bits.proofs.span.put_span.Goals as goal
 
@@ -16,7 +16,7 @@ loop-i-preserved c =
     let a = c.args in
     let done = 64 * c.loop-i.i in
     let next : 64 * (c.loop-i.i + 1) ≡ done + 64 = omega arith in
-    rw (c.put_by_words.ensures, next, c.filled-full.ensures, alike-bits, c.loop-i.invariant) (span_turn a.ones a.s.now a.pos done 64 (omega arith))
+    rw (c.put_by_words.ensures, next, c.filled-full.ensures, alike-bits, c.loop-i.invariant) (span_grows a.ones a.s.now a.pos done 64 (omega arith))
 
 -- the bits behind the words
 rest : (c : After-filled-full) → c.filled-full.result / 2 ^ (64 - c.args.n % 64) ≡ val (replicate (c.args.n % 64) c.args.ones)
@@ -34,4 +34,4 @@ returns-then-k-gt0 c =
     let last : c.loop-i.i ≡ a.n / 64 = omega arith in
     let all : done + k ≡ a.n = omega arith in
     rw (c.put_bits.ensures, rest (goal.at.returns-then-k-gt0 c).After-filled-full, alike-bits, rw last at c.loop-i.invariant)
-    (rw all at (span_turn a.ones a.s.now a.pos done k (omega arith)))
+    (rw all at (span_grows a.ones a.s.now a.pos done k (omega arith)))
