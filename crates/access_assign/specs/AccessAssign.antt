@@ -1,7 +1,7 @@
 -- ACCESS-ASSIGN (document 01): "Header 2, field one 6, field two 6. Header 0: two access fields .. Headers 1 and 2: downlink usage, access
 -- field. Header 3: downlink usage, uplink usage."
 use Rattle.std.specs.Prelude.{ℕ, ◌≡◌, List, [], ◌∷◌, Bool, false, eqb, Result, Err, Ok}
-use Rattle.tetra_core.specs.Refusal.{first}
+use Rattle.tetra_core.specs.Refusal.{number, first}
 use Rattle.tetra_core.specs.declared.bitbuffer.Cursor.{Cursor}
 use Rattle.tetra_core.specs.declared.bitbuffer.Read.{Read}
 use Rattle.tetra_core.specs.declared.bitbuffer.Moved.{Moved}
@@ -44,7 +44,7 @@ assign_size = 14
 -- what these fields say, whatever bits follow them
 abbrev pub said : Result AccessAssign Refusal → List Bool → ℕ → Out AccessAssign
 said (Ok a) rest n = got a rest n
-said (Err r) rest n = refused r.number r.offset
+said (Err r) rest n = refused (number r.reason) r.offset
 
 -- the answer r is what these fields say, of which the second begins at an offset
 abbrev pub Says : ℕ → ℕ → ℕ → ℕ → Result AccessAssign Refusal → Type 0

@@ -1,8 +1,8 @@
 // Clause 21.4.7.2, ACCESS-ASSIGN: 14 bits, header 2, field one 6 and field two 6.
 ghost use Rattle.std.specs.Prelude.{◌≡◌, ◌<◌};
+ghost use Rattle.tetra_core.specs.Refusal.{refused_by};
 ghost use Rattle.codec.specs.Ahead.{Ready, ReadsNext};
-ghost use Rattle.codec.specs.Row.{row_bits, RowIs};
-ghost use Rattle.codec.specs.Encoded.{EncodesOne};
+ghost use Rattle.codec.specs.Row.{row_bits};
 ghost use Rattle.access_assign.specs.AccessAssign.{assign_size, default_access_assign, is_dl_traffic, Says, read_access_assign, access_assign_at, header_number, field_one, field_two, access_assign_refusal, access_assign_row, access_assign_write, access_assign_written};
 
 use crate::enums::access_assign_dl_usage::AccessAssignDlUsage;
@@ -10,13 +10,11 @@ use crate::enums::access_assign_ul_usage::AccessAssignUlUsage;
 use crate::enums::access_code::AccessCode;
 use crate::structs::access_field::AccessField;
 use crate::structs::base_frame_length::BaseFrameLength;
-use codec::encoded::Encoded;
+use codec::encoded::Encode;
 use codec::header::Header;
-use codec::piece::Piece;
 use codec::{Ahead, encoded, header};
 use tetra_core::bitbuffer::{Cursor, Moved, Read};
-use tetra_core::refusal;
-use tetra_core::refusal::Refusal;
+use tetra_core::refusal::{Reason, Refusal};
 
 // The bits of an ACCESS-ASSIGN.
 const SIZE: usize = 14;
@@ -120,7 +118,7 @@ fn access_assign_of(header: u64, one: u64, two: u64, second: usize) -> Result<Ac
                 })
             }
             None => Err(Refusal {
-                number: refusal::USAGE_MARKER,
+                reason: Reason::UsageMarker,
                 offset: second,
             }),
         },
@@ -157,15 +155,15 @@ pub fn from_bitbuf(s: &[u8], c: Cursor) -> Read<AccessAssign>
     header::from_bitbuf(s, c)
 }
 
-// Why an ACCESS-ASSIGN is not written, or 0.
-pub fn access_assign_refusal(a: AccessAssign) -> u8
-    ensures { result ≡ access_assign_refusal a }
+// Why an ACCESS-ASSIGN is not written, if so.
+pub fn access_assign_refusal(a: AccessAssign) -> Result<(), Reason>
+    ensures { refused_by result ≡ access_assign_refusal a }
 {
     match a {
         AccessAssign::DownlinkCommonControlUplinkCommonOnly {
             access_field_1: _,
             access_field_2: _,
-        } => 0,
+        } => Ok(()),
         AccessAssign::DownlinkDefinedUplinkCommonAndAssigned {
             downlink_usage_marker,
             access_field: _,
@@ -178,10 +176,7 @@ pub fn access_assign_refusal(a: AccessAssign) -> u8
             downlink_usage_marker,
             uplink_usage_marker,
         } => {
-            let number = downlink_usage_marker.usage_refusal();
-            if number != 0 {
-                return number;
-            }
+            downlink_usage_marker.usage_refusal()?;
             uplink_usage_marker.usage_refusal()
         }
     }
@@ -263,28 +258,23 @@ fn field_two(a: AccessAssign) -> u64
     }
 }
 
-// The 14 bits of an ACCESS-ASSIGN as one number.
-fn access_assign_word(a: AccessAssign) -> u64
-    requires { access_assign_refusal a ≡ 0 }
-    ensures { RowIs (access_assign_row a) assign_size result }
-{
-    header_number(a) * HEADER + (field_one(a) * FIELD_ONE + field_two(a))
-}
+impl Encode for AccessAssign {
+    ghost refused = { access_assign_refusal };
 
-// An ACCESS-ASSIGN on its way to being written.
-fn access_assign_encoded(a: AccessAssign) -> Encoded
-    ensures { EncodesOne (access_assign_refusal a) assign_size (row_bits (access_assign_row a)) result }
-{
-    let number = access_assign_refusal(a);
-    if number != 0 {
-        return encoded::refused(number, SIZE);
+    ghost size = { λ _. assign_size };
+
+    ghost bits = { λ a. row_bits (access_assign_row a) };
+
+    fn refusal(self) -> Result<(), Reason> {
+        access_assign_refusal(self)
     }
-    Encoded {
-        number,
-        piece: Piece {
-            value: access_assign_word(a),
-            bits: SIZE,
-        },
+
+    fn len(self) -> usize {
+        SIZE
+    }
+
+    fn word(self) -> u64 {
+        header_number(self) * HEADER + (field_one(self) * FIELD_ONE + field_two(self))
     }
 }
 
@@ -292,5 +282,5 @@ fn access_assign_encoded(a: AccessAssign) -> Encoded
 pub fn to_bitbuf(s: &mut [u8], c: Cursor, a: AccessAssign) -> Moved
     ensures { (result ≡ access_assign_write s.old c a) × (s.new ≡ access_assign_written s.old c a) }
 {
-    encoded::write(s, c, access_assign_encoded(a))
+    encoded::to_bitbuf(s, c, a)
 }

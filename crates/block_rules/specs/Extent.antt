@@ -1,6 +1,7 @@
 -- Where a PDU ends. Document 01, "Block", "At bit p of N": by the bits left, the type, the length and the address type alone.
 use Rattle.std.specs.Prelude.{◌⊎◌, Bool, cond, List, ℕ, ◌+◌, ◌*◌, ◌≤◌, ◌<◌, leb, ltb, eqb, length, take, drop}
 use Rattle.bits.specs.Bits.{val}
+use Rattle.tetra_core.specs.Refusal.{reason}
 use Rattle.block_rules.specs.declared.extent.Extent.{Extent}
 use Rattle.block_rules.specs.Numbers.{least_bits, second_slot_stolen, length_at, address_type_at}
 
@@ -21,9 +22,9 @@ address_type bits = field address_type_at 3 bits
 -- end": where `left` bits are left to N, for a length of l octets whose field begins at bit o
 unfoldable pub counted_extent : (left l o : ℕ) → Extent
 counted_extent left l o =
-    cond (ltb l 2) (Extent.Unsized 8 o)
+    cond (ltb l 2) (Extent.Unsized (reason 8) o)
     (cond (leb (8 * l) left) (Extent.Sized (8 * l))
-    (cond (ltb (8 * l) (left + 8)) (Extent.Sized left) (Extent.Unsized 8 o)))
+    (cond (ltb (8 * l) (left + 8)) (Extent.Sized left) (Extent.Unsized (reason 8) o)))
 
 -- "length 62 or 63: the PDU runs to N"; "the block's 4, 8 and 12 give 0, 7 and the header's end"
 unfoldable pub resource_extent : (left l : ℕ) → Extent
@@ -33,7 +34,7 @@ resource_extent left l = cond (leb second_slot_stolen l) (Extent.Sized left) (co
 unfoldable pub extent_of : (left type l address : ℕ) → Extent
 extent_of left type l address =
     cond (ltb left least_bits) Extent.End
-    (cond (eqb type 0) (cond (eqb address 0) (Extent.Null l) (resource_extent left l)) (Extent.Unsized 4 0))
+    (cond (eqb type 0) (cond (eqb address 0) (Extent.Null l) (resource_extent left l)) (Extent.Unsized (reason 4) 0))
 
 -- of the bits from p to N
 unfoldable pub extent : List Bool → Extent

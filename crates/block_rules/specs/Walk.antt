@@ -1,6 +1,7 @@
 -- The block, read: one entry a step, and the walk, "all steps from bit 0 to the end, each from the last one's PDU end".
 use Rattle.std.specs.Prelude.{Bool, cond, ◌&&◌, List, [], ◌∷◌, ◌++◌, ℕ, zero, suc, ◌+◌, ◌-◌, ◌*◌, leb, length, drop, Option, Some, None}
 use Rattle.bits.specs.Bits.{bits_at}
+use Rattle.tetra_core.specs.Refusal.{number}
 use Rattle.block_rules.specs.declared.extent.Extent.{Extent}
 use Rattle.block_rules.specs.Numbers.{most_bits, least_bits}
 use Rattle.block_rules.specs.Extent.{extent}
@@ -63,7 +64,7 @@ module _ {H : Type 0} where
   module _ (R : HeaderReader H) where
     unfoldable pub pdu_of : List Bool → Extent → Option (Pdu H)
     pdu_of bits Extent.End = None
-    pdu_of bits (Extent.Unsized j o) = Some (Pdu.unsized j o)
+    pdu_of bits (Extent.Unsized r o) = Some (Pdu.unsized (number r) o)
     pdu_of bits (Extent.Null l) = Some (Pdu.null l)
     pdu_of bits (Extent.Sized s) = Some (Pdu.sized s (read_pdu R bits s))
 

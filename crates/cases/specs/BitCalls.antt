@@ -4,6 +4,8 @@ use Rattle.std.specs.Prelude.{◌≡◌, true, false, List, [], ◌∷◌, ◌++
 use Rattle.tetra_core.specs.BitBuffer.{at, read_bits, peek_at, read_bits_into_slice, sliced_bits, to_bitarr, bitarr, into_bitvec, bitvec, write_bits, written, write_run, run_written, copy_bits, copied, copy_bits_from_bitarr, from_bitarr, window_count, changed, seek_rel, opened}
 use Rattle.tetra_core.specs.Quantity.{octet_count}
 use Rattle.tetra_core.specs.declared.bitbuffer.Cursor.{Cursor}
+use Rattle.tetra_core.specs.Refusal.{reason}
+use Rattle.tetra_core.specs.declared.refusal.Reason.{Reason}
 use Rattle.tetra_core.specs.declared.refusal.Refusal.{Refusal}
 use Rattle.tetra_core.specs.declared.bitbuffer.Read.{Read}
 use Rattle.tetra_core.specs.declared.bitbuffer.Moved.{Moved}
@@ -22,7 +24,7 @@ pub data BitsCall : Type 0 where
   Turned : Moved → BitsCall
   Count : Result ℕ Refusal → BitsCall
   Open : Result Cursor Refusal → BitsCall
-  Octets : Result OctetCount ℕ → BitsCall
+  Octets : Result OctetCount Reason → BitsCall
 
 -- a call, and what it should answer
 pub record Check : Type 0 where
@@ -42,14 +44,14 @@ abbrev pub value : ℕ → Cursor → Read ℕ
 value v c = record { cursor = c; answer = Ok v }
 
 abbrev pub refuses : ℕ → Cursor → Read ℕ
-refuses j c = record { cursor = c; answer = Err (record { number = j; offset = 0 }) }
+refuses j c = record { cursor = c; answer = Err (record { reason = reason j; offset = 0 }) }
 
 -- a write or move that is done, and a refused one
 abbrev pub done : Cursor → Moved
 done c = record { cursor = c; answer = (Ok tt) }
 
 abbrev pub denied : ℕ → Cursor → Moved
-denied j c = record { cursor = c; answer = Err j }
+denied j c = record { cursor = c; answer = Err (reason j) }
 
 -- 17 bytes, which are 136 bits
 abbrev pub sample : List ℕ
@@ -117,10 +119,10 @@ writes =
 abbrev pub copies : List Check
 copies =
     check (Copies (copy_bits zeros (cursor 0 3 136) sample (cursor 0 5 136) 131) (copied zeros (cursor 0 3 136) sample (cursor 0 5 136) 131)) (Copies (record { cursor = cursor 0 134 136; source = cursor 0 136 136; answer = (Ok tt) }) (0x08 ∷ 0xd1 ∷ 0x59 ∷ 0xe2 ∷ 0x6a ∷ 0xf3 ∷ 0x7b ∷ 0xc0 ∷ 0x44 ∷ 0x8d ∷ 0x15 ∷ 0x9e ∷ 0x26 ∷ 0xaf ∷ 0x37 ∷ 0xbd ∷ 0x68 ∷ []))
-    ∷ check (Copies (copy_bits zeros (cursor 0 3 136) sample (cursor 0 5 136) 132) (copied zeros (cursor 0 3 136) sample (cursor 0 5 136) 132)) (Copies (record { cursor = cursor 0 3 136; source = cursor 0 5 136; answer = Err 1 }) zeros)
-    ∷ check (Copies (copy_bits zeros (cursor 0 6 136) sample (cursor 0 5 136) 131) (copied zeros (cursor 0 6 136) sample (cursor 0 5 136) 131)) (Copies (record { cursor = cursor 0 6 136; source = cursor 0 5 136; answer = Err 2 }) zeros)
-    ∷ check (Copies (copy_bits zeros (cursor 0 9 137) sample (cursor 0 0 136) 1) (copied zeros (cursor 0 9 137) sample (cursor 0 0 136) 1)) (Copies (record { cursor = cursor 0 9 137; source = cursor 0 0 136; answer = Err 13 }) zeros)
-    ∷ check (Copies (copy_bits zeros (cursor 0 9 136) sample (cursor 0 0 137) 1) (copied zeros (cursor 0 9 136) sample (cursor 0 0 137) 1)) (Copies (record { cursor = cursor 0 9 136; source = cursor 0 0 137; answer = Err 13 }) zeros)
+    ∷ check (Copies (copy_bits zeros (cursor 0 3 136) sample (cursor 0 5 136) 132) (copied zeros (cursor 0 3 136) sample (cursor 0 5 136) 132)) (Copies (record { cursor = cursor 0 3 136; source = cursor 0 5 136; answer = Err (reason 1) }) zeros)
+    ∷ check (Copies (copy_bits zeros (cursor 0 6 136) sample (cursor 0 5 136) 131) (copied zeros (cursor 0 6 136) sample (cursor 0 5 136) 131)) (Copies (record { cursor = cursor 0 6 136; source = cursor 0 5 136; answer = Err (reason 2) }) zeros)
+    ∷ check (Copies (copy_bits zeros (cursor 0 9 137) sample (cursor 0 0 136) 1) (copied zeros (cursor 0 9 137) sample (cursor 0 0 136) 1)) (Copies (record { cursor = cursor 0 9 137; source = cursor 0 0 136; answer = Err (reason 13) }) zeros)
+    ∷ check (Copies (copy_bits zeros (cursor 0 9 136) sample (cursor 0 0 137) 1) (copied zeros (cursor 0 9 136) sample (cursor 0 0 137) 1)) (Copies (record { cursor = cursor 0 9 136; source = cursor 0 0 137; answer = Err (reason 13) }) zeros)
     ∷ []
 
 -- copy_bits_from_bitarr: a value that is no bit before the end
@@ -155,17 +157,17 @@ counted =
     check (Count (window_count 17 inner (40 - 8))) (Count (Ok 32))
     ∷ check (Count (window_count 17 inner (40 - 16))) (Count (Ok 24))
     ∷ check (Count (window_count 17 inner (16 - 8))) (Count (Ok 8))
-    ∷ check (Count (window_count 17 bad (40 - 8))) (Count (Err (record { number = 13; offset = 0 })))
+    ∷ check (Count (window_count 17 bad (40 - 8))) (Count (Err (record { reason = reason 13; offset = 0 })))
     ∷ check (Open (opened 17 136)) (Open (Ok (cursor 0 0 136)))
-    ∷ check (Open (opened 17 137)) (Open (Err (record { number = 13; offset = 0 })))
+    ∷ check (Open (opened 17 137)) (Open (Err (record { reason = reason 13; offset = 0 })))
     ∷ check (Open (opened 8192 (8 * 8192))) (Open (Ok (cursor 0 0 65536)))
-    ∷ check (Open (opened 8193 (8 * 8193))) (Open (Err (record { number = 13; offset = 0 })))
+    ∷ check (Open (opened 8193 (8 * 8193))) (Open (Err (record { reason = reason 13; offset = 0 })))
     ∷ check (Octets (octet_count 0)) (Octets (Ok (record { octets = record { 0 = 0 }; fill = record { 0 = 0 } })))
     ∷ check (Octets (octet_count 1)) (Octets (Ok (record { octets = record { 0 = 1 }; fill = record { 0 = 7 } })))
     ∷ check (Octets (octet_count 48)) (Octets (Ok (record { octets = record { 0 = 6 }; fill = record { 0 = 0 } })))
     ∷ check (Octets (octet_count 49)) (Octets (Ok (record { octets = record { 0 = 7 }; fill = record { 0 = 7 } })))
     ∷ check (Octets (octet_count 488)) (Octets (Ok (record { octets = record { 0 = 61 }; fill = record { 0 = 0 } })))
-    ∷ check (Octets (octet_count 489)) (Octets (Err 8))
+    ∷ check (Octets (octet_count 489)) (Octets (Err (reason 8)))
     ∷ []
 
 abbrev pub bit_calls : List Check

@@ -1,12 +1,12 @@
 -- The rules of document 01's "Block" at their edges, in the form of specs/Cases.antt: a row for each rule, with the sentence that it holds.
 -- docs/TRUST.md says which wrong definitions each row refuses. `proofs/Cases.antt` computes every row.
 use Rattle.std.specs.Prelude.{◌⊎◌, Bool, true, false, List, [], ◌∷◌, ◌++◌, map, ℕ, ◌≤◌, ◌<◌, replicate, Err, None, Option, Some, Ok}
+use Rattle.tetra_core.specs.Refusal.{reason}
 use Rattle.tetra_core.specs.declared.address.SsiType.{SsiType}
 use Rattle.tetra_core.specs.declared.address.DownlinkAddress.{DownlinkAddress}
 use Rattle.channel_allocation.specs.declared.enums.ul_dl_assignment.UlDlAssignment.{UlDlAssignment}
 use Rattle.channel_allocation.specs.ChannelAllocation.{compute_len}
 use Rattle.mac_resource.specs.declared.mac_resource.MacResource.{MacResource}
-use Rattle.mac_resource.specs.declared.mac_resource.LenAndFill.{LenAndFill}
 use Rattle.mac_resource.specs.MacResource.{null_pdu, compute_header_len, update_len_and_fill_ind}
 use Rattle.block_rules.specs.declared.to_add.LengthIndication.{LengthIndication}
 use Rattle.block_rules.specs.Extent.{Spared}
@@ -180,9 +180,9 @@ augmented p f = header 0 false 0 (DownlinkAddress.Ssi SsiType.Ssi 1) (Some (allo
 -- "The three length functions refuse 6 for direction 0, before 8; in an add such an element counts 25 or 27 bits."
 abbrev pub directions : Row
 directions =
-    check (Answer.AllocationLen (compute_len (allocation UlDlAssignment.Augmented 1 None))) (Answer.AllocationLen (Err 6))
-    ∷ check (Answer.HeaderBits (compute_header_len (augmented 1 None))) (Answer.HeaderBits (Err 6))
-    ∷ check (Answer.Octets (update_len_and_fill_ind (augmented 1 None) 488)) (Answer.Octets (Err 6))
+    check (Answer.AllocationLen (compute_len (allocation UlDlAssignment.Augmented 1 None))) (Answer.AllocationLen (Err (reason 6)))
+    ∷ check (Answer.HeaderBits (compute_header_len (augmented 1 None))) (Answer.HeaderBits (Err (reason 6)))
+    ∷ check (Answer.Octets (update_len_and_fill_ind (augmented 1 None) 488)) (Answer.Octets (Err (reason 6)))
     ∷ check (adds_to20 (augmented 1 None) 421) (kept (refused 0 8 ∷ []))
     ∷ check (adds_to20 (augmented 1 None) 420) (kept (refused 0 6 ∷ []))
     ∷ check (adds_to20 (augmented 0 (Some 1)) 419) (kept (refused 0 8 ∷ []))

@@ -3,6 +3,8 @@
 use Rattle.std.specs.Prelude.{◌≡◌, Bool, true, false, List, [], ◌∷◌, ◌++◌, map, ℕ, replicate, Err, None, Ok, Option, Result, Some}
 use Rattle.tetra_core.specs.declared.address.SsiType.{SsiType}
 use Rattle.tetra_core.specs.declared.quantity.Bits.{Bits}
+use Rattle.tetra_core.specs.Refusal.{reason}
+use Rattle.tetra_core.specs.declared.refusal.Reason.{Reason}
 use Rattle.tetra_core.specs.declared.refusal.Refusal.{Refusal}
 use Rattle.tetra_core.specs.declared.address.DownlinkAddress.{DownlinkAddress}
 use Rattle.tetra_core.specs.declared.address.UplinkAddress.{UplinkAddress}
@@ -55,9 +57,9 @@ pub data Answer : Type 0 where
   ReadData : Read MacData → Answer
   ReadResource : Read MacResource → Answer
   -- its length: `compute_len`, `compute_header_len`, `update_len_and_fill_ind`
-  AllocationLen : Result Bits ℕ → Answer
-  HeaderBits : Result Bits ℕ → Answer
-  Octets : Result LenAndFill ℕ → Answer
+  AllocationLen : Result Bits Reason → Answer
+  HeaderBits : Result Bits Reason → Answer
+  Octets : Result LenAndFill Reason → Answer
   -- the adds and finishes of a block, each with the writer's bit after it, the bytes that are left, and the walk of the block then
   Block : List Written → (bytes : List ℕ) → Walk DownlinkHeader → Answer
   -- one step in a block
@@ -165,7 +167,7 @@ abbrev pub done : (bit : ℕ) → Written
 done p = record { bit = p; answer = (Ok tt) }
 
 abbrev pub refused : (bit number : ℕ) → Written
-refused p j = record { bit = p; answer = Err j }
+refused p j = record { bit = p; answer = Err (reason j) }
 
 abbrev pub entry : (bit : ℕ) → Pdu DownlinkHeader → Entry DownlinkHeader
 entry p x = record { bit = p; pdu = x }
@@ -191,10 +193,10 @@ null_at p = Answer.Step (Ok (Some (BlockEntry.Null p)))
 
 abbrev pub refused_at : (bit : ℕ) → Option ℕ → (number offset : ℕ) → Answer
 refused_at p e j o =
-    Answer.Step (Ok (Some (BlockEntry.Refused (record { bit = p; end = e; refusal = record { number = j; offset = o } }))))
+    Answer.Step (Ok (Some (BlockEntry.Refused (record { bit = p; end = e; refusal = record { reason = reason j; offset = o } }))))
 
 abbrev pub no_step : (number : ℕ) → Answer
-no_step j = Answer.Step (Err (record { number = j; offset = 0 }))
+no_step j = Answer.Step (Err (record { reason = reason j; offset = 0 }))
 
 -- the bytes of a PDU of 34 octets less 4 bits: its first two, and ones behind the header
 abbrev pub ones : ℕ → ℕ → List ℕ
@@ -267,7 +269,7 @@ case_6 =
     ∷ check (Answer.ReadAssign (access_assign_at (0xc4 ∷ 0x00 ∷ []) (window 0 16)))
     (Answer.ReadAssign (record { cursor = window 14 16; answer = Ok traffic4 }))
     ∷ check (Answer.ReadAssign (access_assign_at (0xc4 ∷ 0x08 ∷ []) (window 0 16)))
-    (Answer.ReadAssign (record { cursor = window 0 16; answer = Err (record { number = 7; offset = 8 }) }))
+    (Answer.ReadAssign (record { cursor = window 0 16; answer = Err (record { reason = reason 7; offset = 8 }) }))
     ∷ []
 
 -- "MAC-ACCESS, SSI 1, no options: 00 00 00 08 h, 30 bits."
@@ -314,7 +316,7 @@ case_10 =
 abbrev pub case_11 : Row
 case_11 =
     check (Answer.Octets (update_len_and_fill_ind (ssi1 0 false) 445)) (octets 61 0 false)
-    ∷ check (Answer.Octets (update_len_and_fill_ind (ssi1 0 false) 446)) (Answer.Octets (Err 8))
+    ∷ check (Answer.Octets (update_len_and_fill_ind (ssi1 0 false) 446)) (Answer.Octets (Err (reason 8)))
     ∷ check (block 488 (replicate 61 0) (counts 446 ∷ counts 445 ∷ []))
     (Answer.Block (refused 0 8 ∷ done 488 ∷ [])
     (0x01 ∷ 0xe9 ∷ 0x00 ∷ 0x00 ∷ 0x01 ∷ 0x1f ∷ replicate 55 0xff)
@@ -345,7 +347,7 @@ listing =
 
 -- a write that is refused leaves the cursor at 0 and the bytes
 abbrev pub not_written : (number n : ℕ) → List ℕ → Answer
-not_written j n bytes = Answer.Wrote (record { cursor = window 0 n; answer = Err j }) bytes
+not_written j n bytes = Answer.Wrote (record { cursor = window 0 n; answer = Err (reason j) }) bytes
 
 abbrev pub resource_written : MacResource → Answer
 resource_written h = Answer.Wrote (mac_resource_write (replicate 6 0) (window 0 48) h) (mac_resource_written (replicate 6 0) (window 0 48) h)
@@ -363,21 +365,21 @@ delay14 = record { capacity_allocation = BasicSlotgrantCapAlloc.Grant4Slots; gra
 abbrev pub refusals : Row
 refusals =
     check (Answer.ReadField (read_bits (0xff ∷ []) (window 5 8) 4))
-    (Answer.ReadField (record { cursor = window 5 8; answer = Err (record { number = 1; offset = 0 }) }))
+    (Answer.ReadField (record { cursor = window 5 8; answer = Err (record { reason = reason 1; offset = 0 }) }))
     ∷ check (block 268 (replicate 34 0) (counts 226 ∷ [])) (Answer.Block (refused 0 2 ∷ []) (replicate 34 0) (walked (entry 0 (Pdu.null 0) ∷ []) 16))
     ∷ check (resource_written (plain 6 false 0 (DownlinkAddress.EventLabel 1024))) (not_written 3 48 (replicate 6 0))
     ∷ check (Answer.ReadResource (mac_resource_at (0x40 ∷ 0x00 ∷ []) (window 0 16)))
-    (Answer.ReadResource (record { cursor = window 0 16; answer = Err (record { number = 4; offset = 0 }) }))
+    (Answer.ReadResource (record { cursor = window 0 16; answer = Err (record { reason = reason 4; offset = 0 }) }))
     ∷ check (Answer.ReadAllocation (channel_allocation_at (0x23 ∷ 0x00 ∷ 0x06 ∷ 0x80 ∷ []) (window 0 32)))
-    (Answer.ReadAllocation (record { cursor = window 0 32; answer = Err (record { number = 5; offset = 22 }) }))
+    (Answer.ReadAllocation (record { cursor = window 0 32; answer = Err (record { reason = reason 5; offset = 22 }) }))
     ∷ check (Answer.ReadAllocation (channel_allocation_at (0x20 ∷ 0x00 ∷ 0x04 ∷ 0x80 ∷ []) (window 0 32)))
-    (Answer.ReadAllocation (record { cursor = window 0 32; answer = Err (record { number = 6; offset = 6 }) }))
+    (Answer.ReadAllocation (record { cursor = window 0 32; answer = Err (record { reason = reason 6; offset = 6 }) }))
     ∷ check (resource_written (plain 2 true 0 DownlinkAddress.NullPdu)) (not_written 9 48 (replicate 6 0))
     ∷ check (resource_written (plain 6 false 1 (DownlinkAddress.Ssi SsiType.Ssi 1))) (not_written 10 48 (replicate 6 0))
     ∷ check (Answer.Wrote (channel_allocation_write (replicate 4 0) (window 0 32) patternless) (channel_allocation_written (replicate 4 0) (window 0 32) patternless))
     (not_written 11 32 (replicate 4 0))
     ∷ check (stepped (0x20 ∷ 0x31 ∷ 0x00 ∷ 0x00 ∷ 0x01 ∷ 0x00 ∷ []) 48 0) (refused_at 0 (Some 48) 12 43)
-    ∷ check (Answer.OpenedWindow (opened 1 9)) (Answer.OpenedWindow (Err (record { number = 13; offset = 0 })))
+    ∷ check (Answer.OpenedWindow (opened 1 9)) (Answer.OpenedWindow (Err (record { reason = reason 13; offset = 0 })))
     ∷ check (Answer.Wrote (slotgrant_write (0xff ∷ []) (window 0 8) delay14) (slotgrant_written (0xff ∷ []) (window 0 8) delay14))
     (not_written 14 8 (0xff ∷ []))
     ∷ []

@@ -3,11 +3,12 @@
 -- 1, monitoring pattern 2, and frame-18 pattern 2 only where the pattern is 0. Length 27 bits with pattern 0, else 25."
 use Rattle.std.specs.Prelude.{ℕ, zero, suc, ◌+◌, ◌*◌, ◌/◌, ◌%◌, ◌^◌, List, [], ◌∷◌, ◌++◌, Bool, cond, get_or, eqb, ltb, Err, None, Ok, Option, Result, Some}
 use Rattle.bits.specs.Bits.{digit}
-use Rattle.tetra_core.specs.Refusal.{unless, first}
+use Rattle.tetra_core.specs.Refusal.{reason, unless, first}
 use Rattle.tetra_core.specs.declared.bitbuffer.Cursor.{Cursor}
 use Rattle.tetra_core.specs.declared.bitbuffer.Read.{Read}
 use Rattle.tetra_core.specs.declared.quantity.Bits.{Bits}
 use Rattle.tetra_core.specs.declared.bitbuffer.Moved.{Moved}
+use Rattle.tetra_core.specs.declared.refusal.Reason.{Reason}
 use Rattle.codec.specs.Reader.{Reader, done, refuse, field, here, choose, ◌>>=◌}
 use Rattle.codec.specs.Header.{at_cursor}
 use Rattle.codec.specs.Row.{Cell, cell, row_bits}
@@ -193,11 +194,11 @@ unfoldable pub channel_allocation_len : ChanAllocElement → ℕ
 channel_allocation_len e = cond (eqb e.mon_pattern 0) channel_allocation_most channel_allocation_least
 
 -- a length whose refusal is j, or 0 if nothing refuses it
-abbrev pub len_or : ℕ → ℕ → Result Bits ℕ
+abbrev pub len_or : ℕ → ℕ → Result Bits Reason
 len_or zero n = Ok (record { 0 = n })
-len_or (suc j) n = Err (suc j)
+len_or (suc j) n = Err (reason (suc j))
 
-unfoldable pub compute_len : ChanAllocElement → Result Bits ℕ
+unfoldable pub compute_len : ChanAllocElement → Result Bits Reason
 compute_len e = len_or (len_refusal e) (channel_allocation_len e)
 
 abbrev pub channel_allocation_write : List ℕ → Cursor → ChanAllocElement → Moved

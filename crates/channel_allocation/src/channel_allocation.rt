@@ -1,21 +1,19 @@
 // Clause 21.5.2, channel allocation: 25 bits, or 27 with monitoring pattern 0. An extended carrier and the augmented direction are refused.
-ghost use Rattle.std.specs.Prelude.{◌≡◌, ◌^◌, ◌≤◌, ◌<◌};
-ghost use Rattle.bits.specs.Bits.{bits_of_nat};
+ghost use Rattle.std.specs.Prelude.{◌≡◌, ◌≤◌, ◌<◌};
+ghost use Rattle.tetra_core.specs.Refusal.{refused_by};
 ghost use Rattle.codec.specs.Ahead.{Ready, ReadsNext};
 ghost use Rattle.codec.specs.Row.{RowIs};
-ghost use Rattle.codec.specs.Encoded.{EncodesOne};
+ghost use Rattle.codec.specs.Piece.{Holds};
 ghost use Rattle.channel_allocation.specs.ChannelAllocation.{timeslots_of, timeslots_number, frame18_number, mon_patterns_most, read_mon_patterns, element_of, read_channel_allocation, channel_allocation_at, frame18_refusal, len_refusal, channel_allocation_refusal, head_len, head_row, channel_allocation_bits, channel_allocation_most, channel_allocation_len, compute_len, channel_allocation_write, channel_allocation_written};
 
 use crate::enums::alloc_type::ChanAllocType;
 use crate::enums::ul_dl_assignment::UlDlAssignment;
-use codec::encoded::Encoded;
+use codec::encoded::Encode;
 use codec::header::Header;
-use codec::piece::Piece;
 use codec::{Ahead, encoded, header};
 use tetra_core::bitbuffer::{Cursor, Moved, Read};
 use tetra_core::quantity::Bits;
-use tetra_core::refusal;
-use tetra_core::refusal::Refusal;
+use tetra_core::refusal::{Reason, Refusal};
 
 // The bits up to the extension flag, and those of the whole element: most with monitoring pattern 0.
 const HEAD_BITS: usize = 23;
@@ -174,14 +172,14 @@ pub fn read_channel_allocation(a: Ahead) -> Result<(Ahead, ChanAllocElement), Re
     let x = codec::next_bits(a, HEAD_BITS);
     if x % 2 != 0 {
         return Err(Refusal {
-            number: refusal::EXTENDED_CARRIER,
+            reason: Reason::ExtendedCarrier,
             offset: a.at + EXTENSION_AT,
         });
     }
     let (after, patterns) = read_mon_patterns(codec::advance(a, HEAD_BITS))?;
     if x / DIRECTION % 4 == 0 {
         return Err(Refusal {
-            number: refusal::AUGMENTED,
+            reason: Reason::Augmented,
             offset: a.at + DIRECTION_AT,
         });
     }
@@ -204,51 +202,49 @@ pub fn from_bitbuf(s: &[u8], c: Cursor) -> Read<ChanAllocElement>
     header::from_bitbuf(s, c)
 }
 
-// Why a frame-18 pattern is not written beside a monitoring pattern, or 0.
-fn frame18_refusal(mon_pattern: u8, p: Option<u8>) -> u8
-    ensures { result ≡ frame18_refusal mon_pattern p }
+// Why a frame-18 pattern is not written beside a monitoring pattern, if so.
+fn frame18_refusal(mon_pattern: u8, p: Option<u8>) -> Result<(), Reason>
+    ensures { refused_by result ≡ frame18_refusal mon_pattern p }
 {
     if mon_pattern != 0 {
-        return 0;
+        return Ok(());
     }
     match p {
-        None => refusal::NO_FRAME_18_PATTERN,
+        None => Err(Reason::NoFrame18Pattern),
         Some(v) => {
             if 3 < v {
-                return refusal::VALUE_TOO_WIDE;
+                return Err(Reason::ValueTooWide);
             }
-            0
+            Ok(())
         }
     }
 }
 
-// Why the length of a channel allocation is not counted, or 0.
-pub fn len_refusal(e: ChanAllocElement) -> u8
-    ensures { result ≡ len_refusal e }
+// Why the length of a channel allocation is not counted, if so.
+pub fn len_refusal(e: ChanAllocElement) -> Result<(), Reason>
+    ensures { refused_by result ≡ len_refusal e }
 {
     let direction = e.ul_dl_assigned;
     match direction {
-        UlDlAssignment::Augmented => refusal::AUGMENTED,
-        UlDlAssignment::Dl => 0,
-        UlDlAssignment::Ul => 0,
-        UlDlAssignment::Both => 0,
+        UlDlAssignment::Augmented => Err(Reason::Augmented),
+        UlDlAssignment::Dl => Ok(()),
+        UlDlAssignment::Ul => Ok(()),
+        UlDlAssignment::Both => Ok(()),
     }
 }
 
-pub fn channel_allocation_refusal(e: ChanAllocElement) -> u8
-    ensures { result ≡ channel_allocation_refusal e }
+// Why a channel allocation is not written, if so.
+pub fn channel_allocation_refusal(e: ChanAllocElement) -> Result<(), Reason>
+    ensures { refused_by result ≡ channel_allocation_refusal e }
 {
     if 4095 < e.carrier_num {
-        return refusal::VALUE_TOO_WIDE;
+        return Err(Reason::ValueTooWide);
     }
     if 3 < e.mon_pattern {
-        return refusal::VALUE_TOO_WIDE;
+        return Err(Reason::ValueTooWide);
     }
     let p = e.frame18_mon_pattern;
-    let number = frame18_refusal(e.mon_pattern, p);
-    if number != 0 {
-        return number;
-    }
+    frame18_refusal(e.mon_pattern, p)?;
     len_refusal(e)
 }
 
@@ -260,13 +256,10 @@ pub fn allocation_len(e: ChanAllocElement) -> usize
 }
 
 // The bits that a channel allocation is written as.
-pub fn compute_len(e: ChanAllocElement) -> Result<Bits, u8>
+pub fn compute_len(e: ChanAllocElement) -> Result<Bits, Reason>
     ensures { result ≡ compute_len e }
 {
-    let number = len_refusal(e);
-    if number != 0 {
-        return Err(number);
-    }
+    len_refusal(e)?;
     Ok(Bits(allocation_len(e) as u16))
 }
 
@@ -293,7 +286,7 @@ fn head_word(e: ChanAllocElement) -> u64
 // The 25 or 27 bits of a channel allocation as one number.
 pub fn channel_allocation_word(e: ChanAllocElement) -> u64
     requires { channel_allocation_refusal e ≡ 0 }
-    ensures { (bits_of_nat (channel_allocation_len e) result ≡ channel_allocation_bits e) × (result < 2 ^ channel_allocation_len e) }
+    ensures { Holds (channel_allocation_bits e) (channel_allocation_len e) (record { value = result; bits = channel_allocation_len e }) }
 {
     let x = head_word(e) * 4 + e.mon_pattern as u64;
     if e.mon_pattern == 0 {
@@ -303,20 +296,23 @@ pub fn channel_allocation_word(e: ChanAllocElement) -> u64
     x
 }
 
-fn channel_allocation_encoded(e: ChanAllocElement) -> Encoded
-    ensures { EncodesOne (channel_allocation_refusal e) (channel_allocation_len e) (channel_allocation_bits e) result }
-{
-    let number = channel_allocation_refusal(e);
-    let bits = allocation_len(e);
-    if number != 0 {
-        return encoded::refused(number, bits);
+impl Encode for ChanAllocElement {
+    ghost refused = { channel_allocation_refusal };
+
+    ghost size = { channel_allocation_len };
+
+    ghost bits = { channel_allocation_bits };
+
+    fn refusal(self) -> Result<(), Reason> {
+        channel_allocation_refusal(self)
     }
-    Encoded {
-        number,
-        piece: Piece {
-            value: channel_allocation_word(e),
-            bits,
-        },
+
+    fn len(self) -> usize {
+        allocation_len(self)
+    }
+
+    fn word(self) -> u64 {
+        channel_allocation_word(self)
     }
 }
 
@@ -324,5 +320,5 @@ fn channel_allocation_encoded(e: ChanAllocElement) -> Encoded
 pub fn to_bitbuf(s: &mut [u8], c: Cursor, e: ChanAllocElement) -> Moved
     ensures { (result ≡ channel_allocation_write s.old c e) × (s.new ≡ channel_allocation_written s.old c e) }
 {
-    encoded::write(s, c, channel_allocation_encoded(e))
+    encoded::to_bitbuf(s, c, e)
 }

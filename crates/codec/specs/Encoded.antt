@@ -1,8 +1,10 @@
 -- What is on its way out: the number that refuses it, and its bits in pieces. A header's pieces have the length and the fill flag at places of
 -- their own, which are set when it is written.
-use Rattle.std.specs.Prelude.{ℕ, ◌+◌, ◌-◌, ◌*◌, ◌^◌, ◌≤◌, ◌<◌, ◌≡◌, List, [], ◌∷◌, ◌++◌, Bool, false, length}
+use Rattle.std.specs.Prelude.{ℕ, ◌+◌, ◌-◌, ◌*◌, ◌^◌, ◌≤◌, ◌<◌, ◌≡◌, List, [], ◌∷◌, ◌++◌, Bool, false, length, Result}
+use Rattle.std.specs.Result.{result_and}
 use Rattle.bits.specs.Bits.{digit, bits_of_nat}
-use Rattle.tetra_core.specs.Refusal.{first}
+use Rattle.tetra_core.specs.Refusal.{refused_by}
+use Rattle.tetra_core.specs.declared.refusal.Reason.{Reason}
 use Rattle.codec.specs.Piece.{piece_bits}
 use Rattle.codec.specs.declared.piece.Piece.{Piece}
 use Rattle.codec.specs.declared.encoded.Encoded.{Encoded}
@@ -44,7 +46,7 @@ pub record Encodes (j n : ℕ) (xs : List Bool) (k : ℕ) (ps : List Piece) : Ty
 
 -- of one piece
 abbrev pub EncodesOne : (j n : ℕ) → List Bool → Encoded → Type 0
-EncodesOne j n xs e = Encodes j n xs e.number (e.piece ∷ [])
+EncodesOne j n xs e = Encodes j n xs (refused_by e.judged) (e.piece ∷ [])
 
 -- ---- a header
 
@@ -84,23 +86,23 @@ pub record PuttableHeader (bytes p : ℕ) (e : EncodedHeader) (l : ℕ) (f : Boo
 -- a header that j refuses or, if that is 0, has the bits `xs l f` with any length l and either fill flag f; n of them in any case
 pub record EncodesHeader (j n : ℕ) (xs : ℕ → Bool → List Bool) (e : EncodedHeader) : Type 0 where
   pub placed : Placed e
-  pub encodes : (l : ℕ) (f : Bool) → l < 64 → Encodes j n (xs l f) e.number (pieces_with e l f)
+  pub encodes : (l : ℕ) (f : Bool) → l < 64 → Encodes j n (xs l f) (refused_by e.judged) (pieces_with e l f)
 
 -- a header that can be written with any length and either flag, whatever it is the encoding of
 pub record Settable (e : EncodedHeader) : Type 0 where
   pub placed : Placed e
   pub few : Few e
-  pub sound : (l : ℕ) (f : Bool) → l < 64 → Sound e.number (pieces_with e l f)
+  pub sound : (l : ℕ) (f : Bool) → l < 64 → Sound (refused_by e.judged) (pieces_with e l f)
 
 -- ---- what a header is made of
 
 abbrev pub no_tail : Tail
 no_tail = record { first = record { value = 0; bits = 0 }; second = record { value = 0; bits = 0 } }
 
--- k is judged before the front and the rest
-abbrev pub whole_of : ℕ → Encoded → Encoded → Tail → Places → EncodedHeader
-whole_of k a b t at =
-    record { number = first (k ∷ first (a.number ∷ b.number ∷ []) ∷ []); front = a.piece; rest = b.piece; tail = t; places = at }
+-- r is judged before the front and the rest
+abbrev pub whole_of : Result (Unit {0}) Reason → Encoded → Encoded → Tail → Places → EncodedHeader
+whole_of r a b t at =
+    record { judged = result_and r (result_and a.judged b.judged); front = a.piece; rest = b.piece; tail = t; places = at }
 
 -- the tail of what j refuses or not: n bits which, if j is 0, are ts
 abbrev pub EncodesTail : (j n : ℕ) → List Bool → Tail → Type 0

@@ -1,19 +1,45 @@
 // What is on its way out: encoded once, by functions that no slice is lent to, and then written at a cursor or put into a block.
-ghost use Rattle.std.specs.Prelude.{[], ◌∷◌, ◌≡◌, length};
+ghost use Rattle.std.specs.Prelude.{ℕ, List, Bool, [], ◌∷◌, ◌≡◌, ◌≤◌, Err, length};
 ghost use Rattle.bits.specs.Bits.{put_bits};
+ghost use Rattle.tetra_core.specs.Refusal.{refused_by};
 ghost use Rattle.tetra_core.specs.BitBuffer.{bytes_after};
+ghost use Rattle.codec.specs.Piece.{Holds};
 ghost use Rattle.codec.specs.Write.{write_at, written_at};
-ghost use Rattle.codec.specs.Encoded.{pieces_bits, Few, Fit, Sound, no_tail, front_with, pieces_with, size_of, bits_with, Placed, PuttableHeader, whole_of};
+ghost use Rattle.codec.specs.Encoded.{pieces_bits, EncodesOne, Few, Fit, Sound, no_tail, front_with, pieces_with, size_of, bits_with, Placed, PuttableHeader, whole_of};
 
 use crate::piece;
 use crate::piece::Piece;
 use tetra_core::bitbuffer;
 use tetra_core::bitbuffer::{Cursor, Moved};
+use tetra_core::refusal::Reason;
 
-// What one piece holds: why it is not written, or 0, and its bits. Of what is refused only the size is looked at.
+// What is encoded in one piece, of at most 63 bits.
+pub trait Encode: Copy {
+    // By its definition: the number that refuses it, or 0; how many bits it takes up in any case; and, where nothing refuses it, its bits.
+    ghost refused: { Self → ℕ };
+
+    ghost size: { Self → ℕ };
+
+    ghost bits: { Self → List Bool };
+
+    // Why it is not written, if so.
+    fn refusal(self) -> Result<(), Reason>
+        ensures { refused_by result ≡ refused self };
+
+    // The bits that it takes up, also if it is refused.
+    fn len(self) -> usize
+        ensures { (result ≡ size self) × (result ≤ 63) };
+
+    // Its bits as a number.
+    fn word(self) -> u64
+        requires { refused self ≡ 0 }
+        ensures { Holds (bits self) (size self) (record { value = result; bits = size self }) };
+}
+
+// What one piece holds: whether it is refused, and its bits. Of what is refused only the size is looked at.
 #[derive(Clone, Copy)]
 pub struct Encoded {
-    pub number: u8,
+    pub judged: Result<(), Reason>,
     pub piece: Piece,
 }
 
@@ -35,7 +61,7 @@ pub struct Tail {
 // and has the places, the rest, and a tail.
 #[derive(Clone, Copy)]
 pub struct EncodedHeader {
-    pub number: u8,
+    pub judged: Result<(), Reason>,
     pub front: Piece,
     pub rest: Piece,
     pub tail: Tail,
@@ -43,26 +69,50 @@ pub struct EncodedHeader {
 }
 
 // What would have so many bits, refused.
-pub fn refused(number: u8, bits: usize) -> Encoded
-    ensures { result ≡ record { number = number; piece = record { value = 0; bits = bits } } }
+pub fn refused(reason: Reason, bits: usize) -> Encoded
+    ensures { result ≡ record { judged = Err reason; piece = record { value = 0; bits = bits } } }
 {
     Encoded {
-        number,
+        judged: Err(reason),
         piece: Piece { value: 0, bits },
     }
 }
 
+// What v holds.
+pub fn of<T: Encode>(v: T) -> Encoded
+    ensures { EncodesOne (T.refused v) (T.size v) (T.bits v) result }
+{
+    let bits = v.len();
+    match v.refusal() {
+        Ok(()) => Encoded {
+            judged: Ok(()),
+            piece: Piece {
+                value: v.word(),
+                bits,
+            },
+        },
+        Err(reason) => refused(reason, bits),
+    }
+}
+
 // Writes what one piece holds at the cursor.
-pub fn write(s: &mut [u8], c: Cursor, e: Encoded) -> Moved
-    requires { Sound e.number (e.piece ∷ []) }
-    ensures { (result ≡ write_at s.old c e.number (pieces_bits (e.piece ∷ []))) × (s.new ≡ written_at s.old c e.number (pieces_bits (e.piece ∷ []))) }
+fn write(s: &mut [u8], c: Cursor, e: Encoded) -> Moved
+    requires { Sound (refused_by e.judged) (e.piece ∷ []) }
+    ensures { (result ≡ write_at s.old c (refused_by e.judged) (pieces_bits (e.piece ∷ []))) × (s.new ≡ written_at s.old c (refused_by e.judged) (pieces_bits (e.piece ∷ []))) }
 {
     let p = e.piece;
     let size = p.bits;
-    let number = crate::write_refusal(s.len(), c, e.number, size);
+    let judged = crate::write_refusal(s.len(), c, e.judged, size);
     let pos = c.pos;
-    piece::put(s, pos, number, p, Piece { value: 0, bits: 0 });
-    bitbuffer::moved_unless(c, number, size)
+    piece::put(s, pos, judged, p, Piece { value: 0, bits: 0 });
+    bitbuffer::moved_unless(c, judged, size)
+}
+
+// Writes v at the cursor.
+pub fn to_bitbuf<T: Encode>(s: &mut [u8], c: Cursor, v: T) -> Moved
+    ensures { (result ≡ write_at s.old c (T.refused v) (T.bits v)) × (s.new ≡ written_at s.old c (T.refused v) (T.bits v)) }
+{
+    write(s, c, of(v))
 }
 
 pub fn no_tail() -> Tail
@@ -74,16 +124,21 @@ pub fn no_tail() -> Tail
     }
 }
 
-// A header of its front and its rest, each refused by a number or by 0, and its tail, which the rest's number is for too. What is judged before
-// them refuses it by a number or by 0.
-pub fn whole(before: u8, front: Encoded, rest: Encoded, tail: Tail, places: Places) -> EncodedHeader
+// A header of its front, its rest and its tail. What is judged before it, its front and its rest may refuse it, in this order; the tail is
+// refused where the rest is.
+pub fn whole(
+    before: Result<(), Reason>,
+    front: Encoded,
+    rest: Encoded,
+    tail: Tail,
+    places: Places,
+) -> EncodedHeader
     ensures { result ≡ whole_of before front rest tail places }
 {
     let a = front.piece;
     let b = rest.piece;
-    let number = piece::first_of(front.number, rest.number);
     EncodedHeader {
-        number: piece::first_of(before, number),
+        judged: before.and(front.judged.and(rest.judged)),
         front: a,
         rest: b,
         tail,
@@ -115,19 +170,19 @@ fn with_length(e: EncodedHeader, length_ind: u8, fill_bits: bool) -> Piece
     }
 }
 
-// Puts a header into s from pos on, with a length and a fill flag, unless a number other than 0 refuses it.
+// Puts a header into s from pos on, with a length and a fill flag, unless what is judged refuses it.
 pub fn put_header(
     s: &mut [u8],
     pos: usize,
-    number: u8,
+    judged: Result<(), Reason>,
     e: EncodedHeader,
     length_ind: u8,
     fill_bits: bool,
 )
-    requires { Few e × (number ≡ 0 → PuttableHeader (length s.old) pos e length_ind fill_bits) }
-    ensures { s.new ≡ bytes_after number s.old (put_bits s.old pos (bits_with e length_ind fill_bits)) }
+    requires { Few e × (refused_by judged ≡ 0 → PuttableHeader (length s.old) pos e length_ind fill_bits) }
+    ensures { s.new ≡ bytes_after (refused_by judged) s.old (put_bits s.old pos (bits_with e length_ind fill_bits)) }
 {
-    if number != 0 {
+    if judged.is_err() {
         return;
     }
     let front = with_length(e, length_ind, fill_bits);
@@ -135,8 +190,8 @@ pub fn put_header(
     let first = e.tail.first;
     let second = e.tail.second;
     let behind = pos + (front.bits + rest.bits);
-    piece::put(s, pos, number, front, rest);
-    piece::put(s, behind, number, first, second);
+    piece::put(s, pos, judged, front, rest);
+    piece::put(s, behind, judged, first, second);
 }
 
 // Writes a header at the cursor, with a length and a fill flag.
@@ -147,12 +202,12 @@ pub fn write_header(
     length_ind: u8,
     fill_bits: bool,
 ) -> Moved
-    requires { Placed e × Sound e.number (pieces_with e length_ind fill_bits) }
-    ensures { (result ≡ write_at s.old c e.number (bits_with e length_ind fill_bits)) × (s.new ≡ written_at s.old c e.number (bits_with e length_ind fill_bits)) }
+    requires { Placed e × Sound (refused_by e.judged) (pieces_with e length_ind fill_bits) }
+    ensures { (result ≡ write_at s.old c (refused_by e.judged) (bits_with e length_ind fill_bits)) × (s.new ≡ written_at s.old c (refused_by e.judged) (bits_with e length_ind fill_bits)) }
 {
     let size = size(e);
-    let number = crate::write_refusal(s.len(), c, e.number, size);
+    let judged = crate::write_refusal(s.len(), c, e.judged, size);
     let pos = c.pos;
-    put_header(s, pos, number, e, length_ind, fill_bits);
-    bitbuffer::moved_unless(c, number, size)
+    put_header(s, pos, judged, e, length_ind, fill_bits);
+    bitbuffer::moved_unless(c, judged, size)
 }

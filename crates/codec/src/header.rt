@@ -6,9 +6,9 @@ ghost use Rattle.codec.specs.Header.{within, at_cursor};
 ghost use Rattle.codec.specs.Ahead.{Held, Ready, Reads};
 
 use crate::Ahead;
+use tetra_core::bitbuffer;
 use tetra_core::bitbuffer::{Cursor, Read};
-use tetra_core::refusal::Refusal;
-use tetra_core::{bitbuffer, refusal};
+use tetra_core::refusal::{Reason, Refusal};
 
 // What is read at a cursor: by its definition, and by the code that takes it from the bits ahead.
 pub trait Header: Sized {
@@ -28,7 +28,7 @@ pub fn from_bitbuf<T: Header>(s: &[u8], c: Cursor) -> Read<T>
         return Read {
             cursor: c,
             answer: Err(Refusal {
-                number: refusal::BAD_WINDOW,
+                reason: Reason::BadWindow,
                 offset: 0,
             }),
         };

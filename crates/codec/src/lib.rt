@@ -8,7 +8,8 @@ pub mod piece;
 
 ghost use Rattle.std.specs.Prelude.{◌≡◌, ◌+◌, ◌≤◌, ◌<◌, ltb, length};
 ghost use Rattle.bits.specs.Bits.{digit};
-ghost use Rattle.tetra_core.specs.Refusal.{unless};
+ghost use Rattle.tetra_core.specs.Refusal.{refused_by, unless};
+ghost use Rattle.tetra_core.specs.declared.refusal.Reason.TheVariants.{ReadPastEnd};
 ghost use Rattle.tetra_core.specs.BitBuffer.{moved};
 ghost use Rattle.tetra_core.specs.Laws.Windows.{Good};
 ghost use Rattle.codec.specs.Words.{short_at};
@@ -16,9 +17,9 @@ ghost use Rattle.codec.specs.Header.{within};
 ghost use Rattle.codec.specs.Ahead.{Held, NextBits, Ready, advanced, ending_in};
 ghost use Rattle.codec.specs.Write.{refusal_at};
 
+use tetra_core::bitbuffer;
 use tetra_core::bitbuffer::Cursor;
-use tetra_core::refusal::Refusal;
-use tetra_core::{bitbuffer, refusal};
+use tetra_core::refusal::{Reason, Refusal};
 
 // The bits of a header from the offset at on: so many are left, and the first of them stand in a word, behind its used highest bits. Parts
 // that take no more than what is there are read from this number, and no byte is loaded twice.
@@ -87,10 +88,10 @@ pub fn ending_in(a: Ahead, left: usize) -> Ahead
 
 // The refusal of one field, at the offset o, that does not end within the bits left.
 pub fn field_past_end(o: usize) -> Refusal
-    ensures { result ≡ record { number = 1; offset = o } }
+    ensures { result ≡ record { reason = ReadPastEnd; offset = o } }
 {
     Refusal {
-        number: refusal::READ_PAST_END,
+        reason: Reason::ReadPastEnd,
         offset: o,
     }
 }
@@ -113,10 +114,10 @@ fn reach(widths: &[u8], left: usize) -> usize
 // The refusal of fields of these widths, from the offset o on, that do not end within the bits left.
 pub fn fields_past_end(widths: &[u8], left: usize, o: usize) -> Refusal
     requires { o + left < 18446744073709551616 }
-    ensures { result ≡ record { number = 1; offset = o + short_at widths.now left } }
+    ensures { result ≡ record { reason = ReadPastEnd; offset = o + short_at widths.now left } }
 {
     Refusal {
-        number: refusal::READ_PAST_END,
+        reason: Reason::ReadPastEnd,
         offset: o + reach(widths, left),
     }
 }
@@ -128,14 +129,14 @@ pub fn bit(b: bool) -> u64
     if b { 1 } else { 0 }
 }
 
-// Why a number that must be below a limit is not written, or 0.
-pub fn too_wide(v: u32, limit: u32) -> u8
-    ensures { result ≡ unless (ltb v limit) 3 }
+// Why a number that must be below a limit is not written, if so.
+pub fn too_wide(v: u32, limit: u32) -> Result<(), Reason>
+    ensures { refused_by result ≡ unless (ltb v limit) 3 }
 {
     if v < limit {
-        0
+        Ok(())
     } else {
-        refusal::VALUE_TOO_WIDE
+        Err(Reason::ValueTooWide)
     }
 }
 
@@ -151,18 +152,21 @@ pub fn moved_by(c: Cursor, n: usize) -> Cursor
     }
 }
 
-// Why size bits are not written at a cursor, or 0. What they stand for is itself refused by the number value, or by none if that is 0.
-pub fn write_refusal(len: usize, c: Cursor, value: u8, size: usize) -> u8
-    ensures { result ≡ refusal_at len c value size }
+// Why size bits are not written at a cursor, if so. What they stand for may itself be refused, behind the window.
+pub fn write_refusal(
+    len: usize,
+    c: Cursor,
+    judged: Result<(), Reason>,
+    size: usize,
+) -> Result<(), Reason>
+    ensures { refused_by result ≡ refusal_at len c (refused_by judged) size }
 {
     if !bitbuffer::good_window(len, c) {
-        return refusal::BAD_WINDOW;
+        return Err(Reason::BadWindow);
     }
-    if value != 0 {
-        return value;
-    }
+    judged?;
     if c.end - c.pos < size {
-        return refusal::WRITE_PAST_END;
+        return Err(Reason::WritePastEnd);
     }
-    0
+    Ok(())
 }

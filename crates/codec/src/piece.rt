@@ -1,11 +1,12 @@
 // Bits on their way out: several fields become one number, and one write.
-ghost use Rattle.std.specs.Prelude.{[], ◌∷◌, ◌++◌, ◌≡◌, ◌+◌, ◌^◌, ◌≤◌, ◌<◌, length};
+ghost use Rattle.std.specs.Prelude.{◌++◌, ◌≡◌, ◌+◌, ◌^◌, ◌≤◌, ◌<◌, length};
 ghost use Rattle.bits.specs.Bits.{put_bits};
-ghost use Rattle.tetra_core.specs.Refusal.{first};
+ghost use Rattle.tetra_core.specs.Refusal.{refused_by};
 ghost use Rattle.tetra_core.specs.BitBuffer.{bytes_after};
 ghost use Rattle.codec.specs.Piece.{piece_bits, Holds, Puttable};
 
 use bits::word;
+use tetra_core::refusal::Reason;
 
 // The low `bits` bits of `value`, the highest of them first; value < 2^bits.
 #[derive(Clone, Copy)]
@@ -29,22 +30,12 @@ pub fn joined(a: Piece, b: Piece) -> Piece
     }
 }
 
-// The first of two numbers that is not 0, or 0.
-pub fn first_of(m: u8, n: u8) -> u8
-    ensures { result ≡ first (m ∷ n ∷ []) }
+// Puts two pieces into s from pos on, one after the other, unless what is judged refuses them: by one write where a word holds both.
+pub fn put(s: &mut [u8], pos: usize, judged: Result<(), Reason>, a: Piece, b: Piece)
+    requires { refused_by judged ≡ 0 → Puttable (length s.old) pos a b }
+    ensures { s.new ≡ bytes_after (refused_by judged) s.old (put_bits s.old pos (piece_bits a ++ piece_bits b)) }
 {
-    if m != 0 {
-        return m;
-    }
-    n
-}
-
-// Puts two pieces into s from pos on, one after the other, unless a number other than 0 refuses them: by one write where a word holds both.
-pub fn put(s: &mut [u8], pos: usize, number: u8, a: Piece, b: Piece)
-    requires { number ≡ 0 → Puttable (length s.old) pos a b }
-    ensures { s.new ≡ bytes_after number s.old (put_bits s.old pos (piece_bits a ++ piece_bits b)) }
-{
-    if number != 0 {
+    if judged.is_err() {
         return;
     }
     let n = a.bits;

@@ -7,7 +7,7 @@ ghost use Rattle.tetra_core.specs.BitBuffer.{read_bits, peek_at, write_bits, wri
 
 use tetra_core::bitbuffer;
 use tetra_core::bitbuffer::Cursor;
-use tetra_core::refusal::Refusal;
+use tetra_core::refusal::{Reason, Refusal};
 
 // Reads a field of num_bits bits, 64 at most.
 pub fn read_field(s: &[u8], c: &mut Cursor, num_bits: usize) -> Result<u64, Refusal>
@@ -38,7 +38,7 @@ pub fn peek_field(s: &[u8], c: &mut Cursor, num_bits: usize) -> Result<u64, Refu
 }
 
 // Writes value as a field of num_bits bits, 64 at most.
-pub fn write_field(s: &mut [u8], c: &mut Cursor, value: u64, num_bits: usize) -> Result<(), u8>
+pub fn write_field(s: &mut [u8], c: &mut Cursor, value: u64, num_bits: usize) -> Result<(), Reason>
     ensures { (result ≡ (write_bits s.old c.old value num_bits).answer)
         × (c.new ≡ (write_bits s.old c.old value num_bits).cursor)
         × (s.new ≡ written s.old c.old value num_bits) }
@@ -55,7 +55,7 @@ pub fn copy_bits(
     s: &[u8],
     c: &mut Cursor,
     num_bits: usize,
-) -> Result<(), u8>
+) -> Result<(), Reason>
     ensures { (result ≡ (copy_bits t.old d.old s.now c.old num_bits).answer)
         × (d.new ≡ (copy_bits t.old d.old s.now c.old num_bits).cursor)
         × (c.new ≡ (copy_bits t.old d.old s.now c.old num_bits).source)

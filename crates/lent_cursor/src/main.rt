@@ -24,7 +24,7 @@ const PAIRS: [(usize, usize, usize); 7] = [
     (137, 0, 0),
 ];
 
-// A field's value in hexadecimal, or the number and the bit of its refusal.
+// A field's value in hexadecimal, or the number of its refusal's reason and the bit.
 #[derive(Clone, Copy)]
 struct Field(Result<u64, Refusal>);
 
@@ -32,7 +32,7 @@ impl fmt::Display for Field {
     fn fmt<W: fmt::Write>(&self, f: &mut fmt::Formatter<W>) -> fmt::Result {
         match self.0 {
             Ok(v) => write!(f, "{v:x}"),
-            Err(r) => write!(f, "refused {} {}", r.number, r.offset),
+            Err(r) => write!(f, "refused {} {}", r.reason.number(), r.offset),
         }
     }
 }

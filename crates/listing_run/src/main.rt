@@ -74,7 +74,10 @@ fn add_one(rt: &impl Print, content_bits: usize) -> io::Result<()> {
             println!(rt; "add {content_bits} octets {octets}")?;
             list(rt, &block)
         }
-        Err(n) => println!(rt; "add {content_bits} refused {n}"),
+        Err(reason) => {
+            let number = reason.number();
+            println!(rt; "add {content_bits} refused {number}")
+        }
     }
 }
 

@@ -1,18 +1,16 @@
 // Clause 21.4.2.1, MAC-ACCESS: PDU type 1, fill 1, encrypted 1, address type 2, address, option flag 1 and, if set, 6 bits more.
 ghost use Rattle.std.specs.Prelude.{◌≡◌, ◌≤◌};
+ghost use Rattle.tetra_core.specs.Refusal.{refused_by};
 ghost use Rattle.codec.specs.Ahead.{Ready, ReadsNext};
-ghost use Rattle.codec.specs.Row.{row_bits, RowIs, size};
-ghost use Rattle.codec.specs.Encoded.{EncodesOne};
+ghost use Rattle.codec.specs.Row.{row_bits, size};
 ghost use Rattle.mac_access.specs.MacAccess.{chosen_size, option_most, access_most, mac_access_of, is_null_pdu, is_frag_start, read_chosen, read_option, read_mac_access, mac_access_at, option_row, mac_access_row, mac_access_size, option_refusal, mac_access_refusal, mac_access_write, mac_access_written};
 
-use codec::encoded::Encoded;
+use codec::encoded::Encode;
 use codec::header::Header;
-use codec::piece::Piece;
 use codec::{Ahead, encoded, header};
 use tetra_core::address::UplinkAddress;
 use tetra_core::bitbuffer::{Cursor, Moved, Read};
-use tetra_core::refusal;
-use tetra_core::refusal::Refusal;
+use tetra_core::refusal::{Reason, Refusal};
 use tetra_fields::enums::reservation_requirement::ReservationRequirement;
 use tetra_fields::fields::uplink_head;
 use tetra_fields::fields::uplink_head::UplinkHead;
@@ -162,24 +160,24 @@ pub fn from_bitbuf(s: &[u8], c: Cursor) -> Read<MacAccess>
     header::from_bitbuf(s, c)
 }
 
-// Why an option is not written, or 0.
-fn option_refusal(option: MacAccessOption) -> u8
-    ensures { result ≡ option_refusal option }
+// Why an option is not written, if so.
+fn option_refusal(option: MacAccessOption) -> Result<(), Reason>
+    ensures { refused_by result ≡ option_refusal option }
 {
     match option {
-        MacAccessOption::Without => 0,
+        MacAccessOption::Without => Ok(()),
         MacAccessOption::LengthInd(n) => {
             if 31 < n {
-                return refusal::VALUE_TOO_WIDE;
+                return Err(Reason::ValueTooWide);
             }
-            0
+            Ok(())
         }
-        MacAccessOption::CapacityRequest(_, _) => 0,
+        MacAccessOption::CapacityRequest(_, _) => Ok(()),
     }
 }
 
-pub fn mac_access_refusal(h: MacAccess) -> u8
-    ensures { result ≡ mac_access_refusal h }
+pub fn mac_access_refusal(h: MacAccess) -> Result<(), Reason>
+    ensures { refused_by result ≡ mac_access_refusal h }
 {
     let addr = h.addr;
     let option = h.option;
@@ -205,46 +203,40 @@ pub fn mac_access_size(h: MacAccess) -> usize
     uplink_head::uplink_size(TYPE_BITS, addr) + option_size(option)
 }
 
-// A MAC-ACCESS as one number.
-fn mac_access_word(h: MacAccess) -> u64
-    requires { mac_access_refusal h ≡ 0 }
-    ensures { RowIs (mac_access_row h) (mac_access_size h) result }
-{
-    let addr = h.addr;
-    let option = h.option;
-    let head = uplink_head::uplink_word(UplinkHead {
-        fill_bits: h.fill_bits,
-        encrypted: h.encrypted,
-        addr,
-    });
-    match option {
-        MacAccessOption::Without => head * BEFORE_FLAG,
-        MacAccessOption::LengthInd(n) => {
-            head * BEFORE_OPTION + (1 * OPTION_FLAG + (0 * SELECTOR + n as u64))
-        }
-        MacAccessOption::CapacityRequest(frag_flag, reservation_req) => {
-            let frag = codec::bit(frag_flag);
-            let req = reservation_req.into_raw();
-            head * BEFORE_OPTION + (1 * OPTION_FLAG + (1 * SELECTOR + (frag * FRAGMENT + req)))
-        }
-    }
-}
+impl Encode for MacAccess {
+    ghost refused = { mac_access_refusal };
 
-// A MAC-ACCESS on its way to being written.
-fn mac_access_encoded(h: MacAccess) -> Encoded
-    ensures { EncodesOne (mac_access_refusal h) (mac_access_size h) (row_bits (mac_access_row h)) result }
-{
-    let number = mac_access_refusal(h);
-    let bits = mac_access_size(h);
-    if number != 0 {
-        return encoded::refused(number, bits);
+    ghost size = { mac_access_size };
+
+    ghost bits = { λ h. row_bits (mac_access_row h) };
+
+    fn refusal(self) -> Result<(), Reason> {
+        mac_access_refusal(self)
     }
-    Encoded {
-        number,
-        piece: Piece {
-            value: mac_access_word(h),
-            bits,
-        },
+
+    fn len(self) -> usize {
+        mac_access_size(self)
+    }
+
+    fn word(self) -> u64 {
+        let addr = self.addr;
+        let option = self.option;
+        let head = uplink_head::uplink_word(UplinkHead {
+            fill_bits: self.fill_bits,
+            encrypted: self.encrypted,
+            addr,
+        });
+        match option {
+            MacAccessOption::Without => head * BEFORE_FLAG,
+            MacAccessOption::LengthInd(n) => {
+                head * BEFORE_OPTION + (1 * OPTION_FLAG + (0 * SELECTOR + n as u64))
+            }
+            MacAccessOption::CapacityRequest(frag_flag, reservation_req) => {
+                let frag = codec::bit(frag_flag);
+                let req = reservation_req.into_raw();
+                head * BEFORE_OPTION + (1 * OPTION_FLAG + (1 * SELECTOR + (frag * FRAGMENT + req)))
+            }
+        }
     }
 }
 
@@ -252,5 +244,5 @@ fn mac_access_encoded(h: MacAccess) -> Encoded
 pub fn to_bitbuf(s: &mut [u8], c: Cursor, h: MacAccess) -> Moved
     ensures { (result ≡ mac_access_write s.old c h) × (s.new ≡ mac_access_written s.old c h) }
 {
-    encoded::write(s, c, mac_access_encoded(h))
+    encoded::to_bitbuf(s, c, h)
 }

@@ -1,5 +1,6 @@
 -- An add of a header on its way out: what can be put, what the call leaves, and what it answers.
 use Rattle.std.specs.Prelude.{◌≡◌, List, ℕ, ◌+◌, ◌*◌, ◌%◌, ◌≤◌, ◌<◌, length}
+use Rattle.tetra_core.specs.Refusal.{refused_by}
 use Rattle.codec.specs.declared.encoded.EncodedHeader.{EncodedHeader}
 use Rattle.codec.specs.Encoded.{size_of, bits_with, Settable}
 use Rattle.block_rules.specs.Numbers.{most_bits}
@@ -17,7 +18,7 @@ most_header_bits = 252
 pub record PuttablePdu (p : ℕ) (e : EncodedHeader) (l slice k f bytes : ℕ) : Type 0 where
   pub octet : p % 8 ≡ 0
   pub fine : Settable e
-  pub free : e.number ≡ 0
+  pub free : refused_by e.judged ≡ 0
   pub length : l < 64
   pub given : k ≤ 8 * slice
   pub room : p + (size_of e + k + f) ≤ 8 * bytes
@@ -25,8 +26,8 @@ pub record PuttablePdu (p : ℕ) (e : EncodedHeader) (l slice k f bytes : ℕ) :
 
 unfoldable pub encoded_to : (n : ℕ) → Writer → EncodedHeader → Ending → (content : List ℕ) (k : ℕ) → Writer
 encoded_to n w e i content k =
-    after (refusal_of (length w.bytes) n w.bit (size_of e) e.number (length content) k) w (added_of n w (size_of e) (bits_with e) i content k)
+    after (refusal_of (length w.bytes) n w.bit (size_of e) (refused_by e.judged) (length content) k) w (added_of n w (size_of e) (bits_with e) i content k)
 
 unfoldable pub encoded_answer : (n : ℕ) → Writer → EncodedHeader → Ending → (content : List ℕ) (k : ℕ) → Written
 encoded_answer n w e i content k =
-    answer_of (refusal_of (length w.bytes) n w.bit (size_of e) e.number (length content) k) (encoded_to n w e i content k)
+    answer_of (refusal_of (length w.bytes) n w.bit (size_of e) (refused_by e.judged) (length content) k) (encoded_to n w e i content k)

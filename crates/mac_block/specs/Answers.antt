@@ -1,5 +1,6 @@
 -- What the calls on a block answer: each case of the definitions as a case of the declared types, bits of the PDU as bits of the block.
 use Rattle.std.specs.Prelude.{ℕ, ◌+◌, length, None, Some, Result, Option, Ok, Err}
+use Rattle.tetra_core.specs.Refusal.{reason}
 use Rattle.tetra_core.specs.BitBuffer.{outcome}
 use Rattle.tetra_core.specs.declared.refusal.Refusal.{Refusal}
 use Rattle.block_rules.specs.Codec.{HeaderWriter}
@@ -13,7 +14,7 @@ use Rattle.mac_block.specs.declared.writer.Written.{Written}
 -- ---- a step
 
 abbrev pub refusal : (number offset : ℕ) → Refusal
-refusal j o = record { number = j; offset = o }
+refusal j o = record { reason = reason j; offset = o }
 
 -- a PDU of s bits from the bit p on: "bit, PDU end, header and content range, or refusal with the PDU's end"
 unfoldable pub sized_entry : (p s : ℕ) → Reading DownlinkHeader → BlockEntry

@@ -8,8 +8,9 @@ use block_rules::LEAST_BITS;
 use block_rules::extent::Extent;
 use codec::Ahead;
 use mac_resource::mac_resource::MAC_RESOURCE_LENGTH_2ND_SLOT_STOLEN;
+use tetra_core::quantity;
 use tetra_core::quantity::Octets;
-use tetra_core::{quantity, refusal};
+use tetra_core::refusal::Reason;
 
 // The least length in octets that a PDU can have.
 const LEAST_OCTETS: u8 = 2;
@@ -27,7 +28,7 @@ fn counted_extent(left: usize, length: Octets, offset: usize) -> Extent
     ensures { result ≡ counted_extent left length.0 offset }
 {
     if length.0 < LEAST_OCTETS {
-        return Extent::Unsized(refusal::LENGTH, offset);
+        return Extent::Unsized(Reason::Length, offset);
     }
     let bits = quantity::octets_to_bits(length).0 as usize;
     if bits <= left {
@@ -36,7 +37,7 @@ fn counted_extent(left: usize, length: Octets, offset: usize) -> Extent
     if bits - left < 8 {
         return Extent::Sized(left);
     }
-    Extent::Unsized(refusal::LENGTH, offset)
+    Extent::Unsized(Reason::Length, offset)
 }
 
 // What begins where left bits are left to the block's end.
@@ -47,7 +48,7 @@ fn extent_of(left: usize, pdu_type: u8, length: u8, address_type: u8) -> Extent
         return Extent::End;
     }
     if pdu_type != 0 {
-        return Extent::Unsized(refusal::WRONG_PDU_TYPE, 0);
+        return Extent::Unsized(Reason::WrongPduType, 0);
     }
     if address_type == 0 {
         return Extent::Null(length);

@@ -2,7 +2,7 @@
 ghost use Rattle.std.specs.Prelude.{◌≡◌, ◌+◌, ◌*◌, ◌≤◌, ◌<◌, length};
 ghost use Rattle.bits.specs.Bits.{bits_at, put_bits};
 ghost use Rattle.tetra_core.specs.Quantity.{octets_of};
-ghost use Rattle.tetra_core.specs.BitBuffer.{outcome};
+ghost use Rattle.tetra_core.specs.Refusal.{refused_by};
 ghost use Rattle.codec.specs.Encoded.{size_of, bits_with, Settable};
 ghost use Rattle.block_rules.specs.Numbers.{most_bits};
 ghost use Rattle.block_rules.specs.Ending.{length_of, pdu_size};
@@ -18,29 +18,19 @@ use block_rules::{LEAST_BITS, MOST_BITS};
 use codec::encoded;
 use codec::encoded::EncodedHeader;
 use mac_resource::mac_resource as resource;
+use tetra_core::quantity;
 use tetra_core::quantity::Octets;
-use tetra_core::{quantity, refusal};
+use tetra_core::refusal::Reason;
 
 // The writer's bit after a call, and whether the call was done.
 #[derive(Clone, Copy)]
 pub struct Written {
     pub bit: usize,
-    pub answer: Result<(), u8>,
+    pub answer: Result<(), Reason>,
 }
 
 // The first 64 bits of what closes a block that has room for a null PDU: the null PDU, 00 10 h, and fill.
 const CLOSING: u64 = 0x0010800000000000;
-
-// What a call answers that a number refuses, or 0 if nothing does. One place makes the answer of a call: with two, the
-// compiler keeps it in memory.
-fn outcome(number: u8) -> Result<(), u8>
-    ensures { result ≡ outcome number }
-{
-    if number != 0 {
-        return Err(number);
-    }
-    Ok(())
-}
 
 // Whether a writer of a block of so many bits can stand at a bit: on an octet, or at the end.
 fn good_bit(bits: usize, bit: usize) -> bool
@@ -94,72 +84,70 @@ fn pdu_size(indication: LengthIndication, left: usize, total: usize) -> usize
     }
 }
 
-// Why a block is not finished, or 0.
-fn finish_refusal(len: usize, bits: usize, bit: usize) -> u8
-    ensures { result ≡ finish_refusal len bits bit }
+// Why a block is not finished, if so.
+fn finish_refusal(len: usize, bits: usize, bit: usize) -> Result<(), Reason>
+    ensures { refused_by result ≡ finish_refusal len bits bit }
 {
     if !crate::good_block(bits, len) {
-        return refusal::BAD_WINDOW;
+        return Err(Reason::BadWindow);
     }
     if !good_bit(bits, bit) {
-        return refusal::BAD_WINDOW;
+        return Err(Reason::BadWindow);
     }
-    0
+    Ok(())
 }
 
-// Why a header of so many bits, which is itself refused by a number or by 0, is not added with its content to any block, or 0.
-fn check_sized(header_bits: usize, number: u8, content_bits: usize) -> u8
+// Why a header of so many bits, which may itself be refused, is not added with its content to any block, if so.
+fn check_sized(
+    header_bits: usize,
+    judged: Result<(), Reason>,
+    content_bits: usize,
+) -> Result<(), Reason>
     requires { header_bits ≤ most_header_bits }
-    ensures { result ≡ check_of header_bits number content_bits }
+    ensures { refused_by result ≡ check_of header_bits (refused_by judged) content_bits }
 {
     // Before the sum, which cannot overflow then.
     if MOST_BITS < content_bits {
-        return refusal::LENGTH;
+        return Err(Reason::Length);
     }
     if MOST_BITS < header_bits + content_bits {
-        return refusal::LENGTH;
+        return Err(Reason::Length);
     }
-    number
+    judged
 }
 
-// Why a PDU with so many bits of content is not added to any block, or 0.
-pub fn add_check(pdu: ResourceToAdd, content_bits: usize) -> u8
-    ensures { result ≡ add_check downlink_writer pdu content_bits }
+// Why a PDU with so many bits of content is not added to any block, if so.
+pub fn add_check(pdu: ResourceToAdd, content_bits: usize) -> Result<(), Reason>
+    ensures { refused_by result ≡ add_check downlink_writer pdu content_bits }
 {
     let header = pdu.header;
     let e = resource::encode_to_add(header);
-    check_sized(encoded::size(e), e.number, content_bits)
+    check_sized(encoded::size(e), e.judged, content_bits)
 }
 
-// Why it is not added at a bit of a block, with the content in a slice of so many bytes, or 0.
+// Why it is not added at a bit of a block, with the content in a slice of so many bytes, if so.
 fn add_refusal(
     len: usize,
     bits: usize,
     bit: usize,
     header_bits: usize,
-    header_number: u8,
+    judged: Result<(), Reason>,
     slice: usize,
     content_bits: usize,
-) -> u8
+) -> Result<(), Reason>
     requires { header_bits ≤ most_header_bits }
-    ensures { result ≡ refusal_of len bits bit header_bits header_number slice content_bits }
+    ensures { refused_by result ≡ refusal_of len bits bit header_bits (refused_by judged) slice content_bits }
 {
-    let number = finish_refusal(len, bits, bit);
-    if number != 0 {
-        return number;
-    }
+    finish_refusal(len, bits, bit)?;
     // Whole octets first: eight times the slice, or seven more bits, could overflow.
     if slice < content_bits / 8 + (content_bits % 8 + 7) / 8 {
-        return refusal::BAD_WINDOW;
+        return Err(Reason::BadWindow);
     }
-    let number = check_sized(header_bits, header_number, content_bits);
-    if number != 0 {
-        return number;
-    }
+    check_sized(header_bits, judged, content_bits)?;
     if bits - bit < header_bits + content_bits {
-        return refusal::WRITE_PAST_END;
+        return Err(Reason::WritePastEnd);
     }
-    0
+    Ok(())
 }
 
 // A PDU put into a block: header and fill into the part that begins at its octet, and the content between them.
@@ -180,7 +168,7 @@ fn put_pdu(
     encoded::put_header(
         &mut block[octet..],
         0,
-        refusal::NONE,
+        Ok(()),
         header,
         length_ind,
         fill != 0,
@@ -189,7 +177,7 @@ fn put_pdu(
     fill::put_fill(&mut block[octet..], header_bits + content_bits, fill);
 }
 
-// A PDU put behind those that were added, and the bit after it. A number other than 0 refuses it: then nothing is put, and the bit stays.
+// A PDU put behind those that were added, and the bit after it. If what is judged refuses it, nothing is put, and the bit stays.
 fn put_add(
     block: &mut [u8],
     bits: usize,
@@ -198,12 +186,12 @@ fn put_add(
     indication: LengthIndication,
     content: &[u8],
     content_bits: usize,
-    number: u8,
+    judged: Result<(), Reason>,
 ) -> usize
-    requires { Settable header × (number ≡ refusal_of (length block.old) bits bit (size_of header) header.number (length content.now) content_bits) }
+    requires { Settable header × (refused_by judged ≡ refusal_of (length block.old) bits bit (size_of header) (refused_by header.judged) (length content.now) content_bits) }
     ensures { (result ≡ (encoded_to bits (writer_at block.old bit) header (ending_of indication) content.now content_bits).bit) × (block.new ≡ (encoded_to bits (writer_at block.old bit) header (ending_of indication) content.now content_bits).bytes) }
 {
-    if number != 0 {
+    if judged.is_err() {
         return bit;
     }
     let total = encoded::size(header) + content_bits;
@@ -237,12 +225,12 @@ pub fn add_encoded(
     let len = block.len();
     let slice = content.len();
     let header_bits = encoded::size(header);
-    let number = add_refusal(
+    let judged = add_refusal(
         len,
         bits,
         bit,
         header_bits,
-        header.number,
+        header.judged,
         slice,
         content_bits,
     );
@@ -254,11 +242,11 @@ pub fn add_encoded(
         indication,
         content,
         content_bits,
-        number,
+        judged,
     );
     Written {
         bit: after,
-        answer: outcome(number),
+        answer: judged,
     }
 }
 
@@ -298,12 +286,12 @@ fn put_closing(s: &mut [u8], pos: usize, left: usize)
     span::put_span(s, pos + 64, left - 64, false);
 }
 
-// What closes a block, put into it, and the bit after it. A number other than 0 refuses it: then nothing is put, and the bit stays.
-fn put_finish(block: &mut [u8], bits: usize, bit: usize, number: u8) -> usize
-    requires { number ≡ finish_refusal (length block.old) bits bit }
+// What closes a block, put into it, and the bit after it. If what is judged refuses it, nothing is put, and the bit stays.
+fn put_finish(block: &mut [u8], bits: usize, bit: usize, judged: Result<(), Reason>) -> usize
+    requires { refused_by judged ≡ finish_refusal (length block.old) bits bit }
     ensures { (result ≡ (finish_to bits (writer_at block.old bit)).bit) × (block.new ≡ (finish_to bits (writer_at block.old bit)).bytes) }
 {
-    if number != 0 {
+    if judged.is_err() {
         return bit;
     }
     // Off an octet nothing is left.
@@ -316,10 +304,10 @@ fn put_finish(block: &mut [u8], bits: usize, bit: usize, number: u8) -> usize
 pub fn finish(block: &mut [u8], bits: usize, bit: usize) -> Written
     ensures { (result ≡ finish_answer bits (writer_at block.old bit)) × (block.new ≡ (finish_to bits (writer_at block.old bit)).bytes) }
 {
-    let number = finish_refusal(block.len(), bits, bit);
-    let after = put_finish(block, bits, bit, number);
+    let judged = finish_refusal(block.len(), bits, bit);
+    let after = put_finish(block, bits, bit, judged);
     Written {
         bit: after,
-        answer: outcome(number),
+        answer: judged,
     }
 }

@@ -1,18 +1,16 @@
 // Clause 21.4.2.3, MAC-DATA: PDU type 2, fill 1, encrypted 1, address type 2, address, selector 1 and 6 bits more.
 ghost use Rattle.std.specs.Prelude.{◌≡◌, ◌≤◌};
+ghost use Rattle.tetra_core.specs.Refusal.{refused_by};
 ghost use Rattle.codec.specs.Ahead.{Ready, ReadsNext};
 ghost use Rattle.codec.specs.Row.{row_bits, RowIs};
-ghost use Rattle.codec.specs.Encoded.{EncodesOne};
 ghost use Rattle.mac_data.specs.MacData.{option_size, data_most, mac_data_of, read_option, read_mac_data, mac_data_at, option_row, mac_data_row, mac_data_size, option_refusal, mac_data_refusal, mac_data_write, mac_data_written};
 
-use codec::encoded::Encoded;
+use codec::encoded::Encode;
 use codec::header::Header;
-use codec::piece::Piece;
 use codec::{Ahead, encoded, header};
 use tetra_core::address::UplinkAddress;
 use tetra_core::bitbuffer::{Cursor, Moved, Read};
-use tetra_core::refusal;
-use tetra_core::refusal::Refusal;
+use tetra_core::refusal::{Reason, Refusal};
 use tetra_fields::enums::reservation_requirement::ReservationRequirement;
 use tetra_fields::fields::uplink_head;
 use tetra_fields::fields::uplink_head::UplinkHead;
@@ -118,24 +116,24 @@ pub fn from_bitbuf(s: &[u8], c: Cursor) -> Read<MacData>
     header::from_bitbuf(s, c)
 }
 
-// Why an option is not written, or 0.
-fn option_refusal(option: MacDataOption) -> u8
-    ensures { result ≡ option_refusal option }
+// Why an option is not written, if so.
+fn option_refusal(option: MacDataOption) -> Result<(), Reason>
+    ensures { refused_by result ≡ option_refusal option }
 {
     match option {
         MacDataOption::LengthInd(n) => {
             if 63 < n {
-                return refusal::VALUE_TOO_WIDE;
+                return Err(Reason::ValueTooWide);
             }
-            0
+            Ok(())
         }
-        MacDataOption::CapacityRequest(_, _) => 0,
+        MacDataOption::CapacityRequest(_, _) => Ok(()),
     }
 }
 
-// Why a MAC-DATA is not written, or 0.
-pub fn mac_data_refusal(h: MacData) -> u8
-    ensures { result ≡ mac_data_refusal h }
+// Why a MAC-DATA is not written, if so.
+pub fn mac_data_refusal(h: MacData) -> Result<(), Reason>
+    ensures { refused_by result ≡ mac_data_refusal h }
 {
     let addr = h.addr;
     let option = h.option;
@@ -165,36 +163,30 @@ fn option_word(option: MacDataOption) -> u64
     }
 }
 
-// A MAC-DATA as one number.
-fn mac_data_word(h: MacData) -> u64
-    requires { mac_data_refusal h ≡ 0 }
-    ensures { RowIs (mac_data_row h) (mac_data_size h) result }
-{
-    let addr = h.addr;
-    let option = h.option;
-    let head = uplink_head::uplink_word(UplinkHead {
-        fill_bits: h.fill_bits,
-        encrypted: h.encrypted,
-        addr,
-    });
-    head * BEFORE_OPTION + option_word(option)
-}
+impl Encode for MacData {
+    ghost refused = { mac_data_refusal };
 
-// A MAC-DATA on its way to being written.
-fn mac_data_encoded(h: MacData) -> Encoded
-    ensures { EncodesOne (mac_data_refusal h) (mac_data_size h) (row_bits (mac_data_row h)) result }
-{
-    let number = mac_data_refusal(h);
-    let bits = mac_data_size(h);
-    if number != 0 {
-        return encoded::refused(number, bits);
+    ghost size = { mac_data_size };
+
+    ghost bits = { λ h. row_bits (mac_data_row h) };
+
+    fn refusal(self) -> Result<(), Reason> {
+        mac_data_refusal(self)
     }
-    Encoded {
-        number,
-        piece: Piece {
-            value: mac_data_word(h),
-            bits,
-        },
+
+    fn len(self) -> usize {
+        mac_data_size(self)
+    }
+
+    fn word(self) -> u64 {
+        let addr = self.addr;
+        let option = self.option;
+        let head = uplink_head::uplink_word(UplinkHead {
+            fill_bits: self.fill_bits,
+            encrypted: self.encrypted,
+            addr,
+        });
+        head * BEFORE_OPTION + option_word(option)
     }
 }
 
@@ -202,5 +194,5 @@ fn mac_data_encoded(h: MacData) -> Encoded
 pub fn to_bitbuf(s: &mut [u8], c: Cursor, h: MacData) -> Moved
     ensures { (result ≡ mac_data_write s.old c h) × (s.new ≡ mac_data_written s.old c h) }
 {
-    encoded::write(s, c, mac_data_encoded(h))
+    encoded::to_bitbuf(s, c, h)
 }

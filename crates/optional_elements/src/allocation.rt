@@ -1,5 +1,6 @@
 // Clause 21.4.3.1, channel allocation: a flag and, where it is set, the element of clause 21.5.2.
 ghost use Rattle.std.specs.Prelude.{◌≡◌, ◌++◌, ◌≤◌};
+ghost use Rattle.tetra_core.specs.Refusal.{refused_by};
 ghost use Rattle.codec.specs.Ahead.{Ready, ReadsNext};
 ghost use Rattle.codec.specs.Row.{row_bits};
 ghost use Rattle.codec.specs.Piece.{Holds};
@@ -10,7 +11,7 @@ use channel_allocation::channel_allocation as element;
 use channel_allocation::channel_allocation::ChanAllocElement;
 use codec::piece::Piece;
 use codec::{Ahead, piece};
-use tetra_core::refusal::Refusal;
+use tetra_core::refusal::{Reason, Refusal};
 
 // The channel allocation flag that is ahead, and the element where it is set; and what is ahead after them.
 pub fn read_allocation(a: Ahead) -> Result<(Ahead, Option<ChanAllocElement>), Refusal>
@@ -20,12 +21,12 @@ pub fn read_allocation(a: Ahead) -> Result<(Ahead, Option<ChanAllocElement>), Re
     optional::read_optional(a, element::read_channel_allocation)
 }
 
-// Why it is not written, or 0.
-pub fn allocation_refusal(a: Option<ChanAllocElement>) -> u8
-    ensures { result ≡ allocation_refusal a }
+// Why it is not written, if so.
+pub fn allocation_refusal(a: Option<ChanAllocElement>) -> Result<(), Reason>
+    ensures { refused_by result ≡ allocation_refusal a }
 {
     match a {
-        None => 0,
+        None => Ok(()),
         Some(e) => element::channel_allocation_refusal(e),
     }
 }
@@ -40,12 +41,12 @@ pub fn allocation_len(a: Option<ChanAllocElement>) -> usize
     }
 }
 
-// Why they are not counted, or 0.
-pub fn allocation_len_refusal(a: Option<ChanAllocElement>) -> u8
-    ensures { result ≡ allocation_len_refusal a }
+// Why they are not counted, if so.
+pub fn allocation_len_refusal(a: Option<ChanAllocElement>) -> Result<(), Reason>
+    ensures { refused_by result ≡ allocation_len_refusal a }
 {
     match a {
-        None => 0,
+        None => Ok(()),
         Some(e) => element::len_refusal(e),
     }
 }

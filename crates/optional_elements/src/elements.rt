@@ -1,5 +1,6 @@
 // Clause 21.4.3.1, the optional elements of MAC-RESOURCE: power control, then slot granting and channel allocation.
 ghost use Rattle.std.specs.Prelude.{◌≡◌, ◌≤◌, length};
+ghost use Rattle.tetra_core.specs.Refusal.{refused_by};
 ghost use Rattle.tetra_core.specs.Laws.Windows.{Good};
 ghost use Rattle.codec.specs.Header.{within};
 ghost use Rattle.codec.specs.Ahead.{Held, Ready, Reads, ReadsNext};
@@ -11,10 +12,9 @@ use crate::grant_and_allocation::GrantAndAllocation;
 use crate::{grant_and_allocation, power_control};
 use codec::encoded::Encoded;
 use codec::piece::Piece;
-use codec::{Ahead, piece};
+use codec::{Ahead, encoded, piece};
 use tetra_core::bitbuffer::Cursor;
-use tetra_core::refusal;
-use tetra_core::refusal::Refusal;
+use tetra_core::refusal::{Reason, Refusal};
 
 // The three flags.
 pub const FLAGS: usize = 3;
@@ -87,16 +87,13 @@ fn is_bare(e: Elements) -> bool
     power.is_none() && granting.is_none() && allocation.is_none()
 }
 
-// Why an element is not written, or 0.
-fn elements_refusal(e: Elements) -> u8
-    ensures { result ≡ elements_refusal e }
+// Why an element is not written, if so.
+fn elements_refusal(e: Elements) -> Result<(), Reason>
+    ensures { refused_by result ≡ elements_refusal e }
 {
     let power = e.power_control_element;
     let behind = e.grant_and_allocation;
-    let number = power_control::power_refusal(power);
-    if number != 0 {
-        return number;
-    }
+    power_control::power_refusal(power)?;
     grant_and_allocation::grant_and_allocation_refusal(behind)
 }
 
@@ -125,25 +122,18 @@ pub fn elements_encoded(e: Elements) -> Encoded
 {
     if is_bare(e) {
         return Encoded {
-            number: refusal::NONE,
+            judged: Ok(()),
             piece: Piece {
                 value: 0,
                 bits: FLAGS,
             },
         };
     }
-    let number = elements_refusal(e);
-    if number != 0 {
-        return Encoded {
-            number,
-            piece: Piece {
-                value: 0,
-                bits: elements_len(e),
-            },
-        };
-    }
-    Encoded {
-        number,
-        piece: elements_piece(e),
+    match elements_refusal(e) {
+        Ok(()) => Encoded {
+            judged: Ok(()),
+            piece: elements_piece(e),
+        },
+        Err(reason) => encoded::refused(reason, elements_len(e)),
     }
 }

@@ -1,5 +1,6 @@
 // Slot granting and channel allocation, one behind the other: what MAC-RESOURCE (clause 21.4.3.1) and MAC-END (21.4.3.3) end with.
 ghost use Rattle.std.specs.Prelude.{◌≡◌, ◌≤◌};
+ghost use Rattle.tetra_core.specs.Refusal.{refused_by};
 ghost use Rattle.codec.specs.Ahead.{Ready, ReadsNext};
 ghost use Rattle.codec.specs.Piece.{Holds};
 ghost use Rattle.optional_elements.specs.GrantAndAllocation.{grant_and_allocation_most, read_grant_and_allocation, grant_and_allocation_refusal, grant_and_allocation_len, grant_and_allocation_bits};
@@ -8,7 +9,7 @@ use crate::{allocation, slot_granting};
 use channel_allocation::channel_allocation::ChanAllocElement;
 use codec::piece::Piece;
 use codec::{Ahead, piece};
-use tetra_core::refusal::Refusal;
+use tetra_core::refusal::{Reason, Refusal};
 use tetra_fields::fields::basic_slotgrant::BasicSlotgrant;
 
 // Each with the bits of its flag and its own.
@@ -34,16 +35,13 @@ pub fn read_grant_and_allocation(a: Ahead) -> Result<(Ahead, GrantAndAllocation)
     Ok((after, elements))
 }
 
-// Why they are not written, or 0.
-pub fn grant_and_allocation_refusal(e: GrantAndAllocation) -> u8
-    ensures { result ≡ grant_and_allocation_refusal e }
+// Why they are not written, if so.
+pub fn grant_and_allocation_refusal(e: GrantAndAllocation) -> Result<(), Reason>
+    ensures { refused_by result ≡ grant_and_allocation_refusal e }
 {
     let granting = e.slot_granting_element;
     let allocation = e.chan_alloc_element;
-    let number = slot_granting::granting_refusal(granting);
-    if number != 0 {
-        return number;
-    }
+    slot_granting::granting_refusal(granting)?;
     allocation::allocation_refusal(allocation)
 }
 

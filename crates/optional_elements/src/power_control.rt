@@ -1,5 +1,6 @@
 // Clause 21.4.3.1, power control: a flag and, where it is set, an element of 4 bits.
 ghost use Rattle.std.specs.Prelude.{◌≡◌, ◌≤◌};
+ghost use Rattle.tetra_core.specs.Refusal.{refused_by};
 ghost use Rattle.codec.specs.Ahead.{Ready, ReadsNext};
 ghost use Rattle.codec.specs.Row.{row_bits};
 ghost use Rattle.codec.specs.Piece.{Holds};
@@ -8,8 +9,7 @@ ghost use Rattle.optional_elements.specs.PowerControl.{level_len, power_most, re
 use crate::optional;
 use codec::Ahead;
 use codec::piece::Piece;
-use tetra_core::refusal;
-use tetra_core::refusal::Refusal;
+use tetra_core::refusal::{Reason, Refusal};
 
 // The bits of the element, and with its flag, which is worth FLAG before it.
 const LEVEL_BITS: usize = 4;
@@ -38,17 +38,17 @@ pub fn read_power(a: Ahead) -> Result<(Ahead, Option<u8>), Refusal>
     optional::read_optional(a, read_level)
 }
 
-// Why it is not written, or 0.
-pub fn power_refusal(p: Option<u8>) -> u8
-    ensures { result ≡ power_refusal p }
+// Why it is not written, if so.
+pub fn power_refusal(p: Option<u8>) -> Result<(), Reason>
+    ensures { refused_by result ≡ power_refusal p }
 {
     match p {
-        None => 0,
+        None => Ok(()),
         Some(v) => {
             if v < 16 {
-                return 0;
+                return Ok(());
             }
-            refusal::VALUE_TOO_WIDE
+            Err(Reason::ValueTooWide)
         }
     }
 }

@@ -1,5 +1,6 @@
 // Clause 21.4.3.1, slot granting: a flag and, where it is set, a basic slot grant of 8 bits.
 ghost use Rattle.std.specs.Prelude.{◌≡◌, ◌≤◌};
+ghost use Rattle.tetra_core.specs.Refusal.{refused_by};
 ghost use Rattle.codec.specs.Ahead.{Ready, ReadsNext};
 ghost use Rattle.codec.specs.Row.{row_bits};
 ghost use Rattle.codec.specs.Piece.{Holds};
@@ -8,7 +9,7 @@ ghost use Rattle.optional_elements.specs.SlotGranting.{granting_most, read_grant
 use crate::optional;
 use codec::Ahead;
 use codec::piece::Piece;
-use tetra_core::refusal::Refusal;
+use tetra_core::refusal::{Reason, Refusal};
 use tetra_fields::fields::basic_slotgrant;
 use tetra_fields::fields::basic_slotgrant::BasicSlotgrant;
 
@@ -27,12 +28,12 @@ pub fn read_granting(a: Ahead) -> Result<(Ahead, Option<BasicSlotgrant>), Refusa
     optional::read_optional(a, basic_slotgrant::read_slotgrant)
 }
 
-// Why it is not written, or 0.
-pub fn granting_refusal(g: Option<BasicSlotgrant>) -> u8
-    ensures { result ≡ granting_refusal g }
+// Why it is not written, if so.
+pub fn granting_refusal(g: Option<BasicSlotgrant>) -> Result<(), Reason>
+    ensures { refused_by result ≡ granting_refusal g }
 {
     match g {
-        None => 0,
+        None => Ok(()),
         Some(e) => basic_slotgrant::slotgrant_refusal(e),
     }
 }

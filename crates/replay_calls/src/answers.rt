@@ -3,7 +3,7 @@ ghost use Rattle.std.specs.Prelude.{◌≡◌, replicate};
 ghost use Rattle.replay_calls.specs.Words.{put};
 
 use tetra_core::bitbuffer::{Copied, Cursor, Moved, Read};
-use tetra_core::refusal::Refusal;
+use tetra_core::refusal::{Reason, Refusal};
 
 // Why a call answers nothing.
 #[derive(Clone, Copy)]
@@ -73,14 +73,21 @@ pub(crate) fn status(status: u64) -> Result<(), Stop> {
     }
 }
 
+// A write or a move has only a reason.
+impl From<Reason> for Stop {
+    fn from(reason: Reason) -> Stop {
+        Stop::Refused {
+            number: reason.number(),
+            bit: 0,
+        }
+    }
+}
+
 // A bit buffer's call is refused at the bit where it begins.
 impl From<Refusal> for Stop {
     fn from(r: Refusal) -> Stop {
         match r.offset {
-            0 => Stop::Refused {
-                number: r.number,
-                bit: 0,
-            },
+            0 => Stop::from(r.reason),
             _ => Stop::Malformed,
         }
     }
@@ -108,12 +115,9 @@ impl<T: Tell> Tell for Option<T> {
     }
 }
 
-impl Tell for Result<(), u8> {
+impl Tell for Result<(), Reason> {
     fn tell(self, _out: &mut Words) -> Result<(), Stop> {
-        match self {
-            Ok(()) => Ok(()),
-            Err(number) => Err(Stop::Refused { number, bit: 0 }),
-        }
+        Ok(self?)
     }
 }
 

@@ -10,9 +10,6 @@ use mac_resource::enums::mac_resource_addr_type::MacResourceAddrType;
 use tetra_fields::enums::basic_slotgrant_cap_alloc::{BasicSlotgrantCapAlloc, GrantedSlots};
 use tetra_fields::enums::basic_slotgrant_granting_delay::BasicSlotgrantGrantingDelay;
 use tetra_fields::enums::reservation_requirement::{ReqSlotcount, ReservationRequirement};
-use tetra_fields::enums::{
-    basic_slotgrant_cap_alloc as cap_alloc, reservation_requirement as reservation,
-};
 
 #[derive(Clone, Copy)]
 pub enum CodeCall {
@@ -97,7 +94,7 @@ impl Coded for BasicSlotgrantGrantingDelay {
 // A case has a name of its own by what it asks for: a subslot 0, slots their count, more than 68 slots 99.
 impl Coded for ReservationRequirement {
     fn place(self) -> u64 {
-        match reservation::to_req_slotcount(self) {
+        match self.to_req_slotcount() {
             ReqSlotcount::Subslot => 0,
             ReqSlotcount::Slots(n) => n as u64,
             ReqSlotcount::Over68 => 99,
@@ -168,7 +165,7 @@ fn field(f: AccessField) -> [u64; 3] {
 
 // What a case grants: the first subslot 0, slots their count, the second subslot 99.
 fn granted(a: BasicSlotgrantCapAlloc) -> u64 {
-    match cap_alloc::to_req_slotcount(a) {
+    match a.to_req_slotcount() {
         GrantedSlots::FirstSubslot => 0,
         GrantedSlots::Slots(n) => n as u64,
         GrantedSlots::SecondSubslot => 99,
@@ -203,12 +200,14 @@ impl CodeCall {
                 [d.into_raw()].tell(out)
             }
             CodeCall::Reservation => case(ReservationRequirement::try_from(v).ok(), out),
-            CodeCall::ReservationFor => case(Some(reservation::from_req_slotcount(req)), out),
+            CodeCall::ReservationFor => {
+                case(Some(ReservationRequirement::from_req_slotcount(req)), out)
+            }
             CodeCall::AccessCode => case(AccessCode::try_from(v).ok(), out),
             CodeCall::BaseFrameLength => case(BaseFrameLength::try_from(v).ok(), out),
             CodeCall::AccessField => field(AccessField::from_raw(v)).tell(out),
             CodeCall::AddressType => case(MacResourceAddrType::try_from(v).ok(), out),
-            CodeCall::CapacityFor => case(cap_alloc::from_req_slotcount(req), out),
+            CodeCall::CapacityFor => case(BasicSlotgrantCapAlloc::from_req_slotcount(req), out),
             CodeCall::Granted => [granted(BasicSlotgrantCapAlloc::from_raw(v))].tell(out),
         }
     }

@@ -81,7 +81,7 @@ fn put_refused(out: &mut [u64], p: RefusedPdu)
         end_bit(end),
         0,
         0,
-        p.refusal.number as u64,
+        p.refusal.reason.number() as u64,
         p.refusal.offset as u64,
     ];
     put_bare(out, &words);

@@ -2,12 +2,13 @@
 use Rattle.std.specs.Prelude.{ℕ, zero, suc, ◌+◌, ◌-◌, ◌*◌, ◌^◌, List, [], ◌∷◌, ◌++◌, map, Bool, true, false, ◌&&◌, length, replicate, drop, ℤ, pos, negsuc, ◌+ℤ◌, leb, ltb, Err, None, Ok, Option, Result, Some}
 use Rattle.std.specs.List.{list_all}
 use Rattle.bits.specs.Bits.{digit, odd, bits_at, get_bits, put_bits, bits_of_nat}
-use Rattle.tetra_core.specs.Refusal.{unless, first}
+use Rattle.tetra_core.specs.Refusal.{reason, unless, first}
 use Rattle.tetra_core.specs.Quantity.{octets_of, fill_of}
 use Rattle.tetra_core.specs.declared.bitbuffer.Cursor.{Cursor}
 use Rattle.tetra_core.specs.declared.bitbuffer.Read.{Read}
 use Rattle.tetra_core.specs.declared.bitbuffer.Moved.{Moved}
 use Rattle.tetra_core.specs.declared.bitbuffer.Copied.{Copied}
+use Rattle.tetra_core.specs.declared.refusal.Reason.{Reason}
 use Rattle.tetra_core.specs.declared.refusal.Refusal.{Refusal}
 
 -- "It is good where start ≤ cursor ≤ end, and end is at most 65,536 and at most 8 × the bytes."
@@ -30,7 +31,7 @@ moved c n = at c (c.pos + n)
 -- a number; "A bare field or peek gives 0" for the place of its refusal
 abbrev pub answer : ℕ → ℕ → Result ℕ Refusal
 answer zero v = Ok v
-answer (suc j) v = Err (record { number = suc j; offset = 0 })
+answer (suc j) v = Err (record { reason = reason (suc j); offset = 0 })
 
 -- the cursor after a call, which a refusal leaves as it was
 abbrev pub after : ℕ → Cursor → Cursor → Cursor
@@ -38,9 +39,9 @@ after zero c d = d
 after (suc j) c d = c
 
 -- what a call that writes, copies or moves says: "A write or length refusal is its number alone"
-abbrev pub outcome : ℕ → Result (Unit {0}) ℕ
+abbrev pub outcome : ℕ → Result (Unit {0}) Reason
 outcome zero = Ok tt
-outcome (suc j) = Err (suc j)
+outcome (suc j) = Err (reason (suc j))
 
 -- the bytes after a call: t, or where it is refused s as they were
 abbrev pub bytes_after : ℕ → List ℕ → List ℕ → List ℕ
@@ -53,9 +54,9 @@ reads j v c d = record { cursor = after j c d; answer = answer j v }
 abbrev pub moves : ℕ → Cursor → Cursor → Moved
 moves j c d = record { cursor = after j c d; answer = outcome j }
 
--- a read that is refused by a number
-abbrev pub read_refused : Cursor → ℕ → Read ℕ
-read_refused c j = record { cursor = c; answer = Err (record { number = j; offset = 0 }) }
+-- a read that is refused for a reason
+abbrev pub read_refused : Cursor → Reason → Read ℕ
+read_refused c r = record { cursor = c; answer = Err (record { reason = r; offset = 0 }) }
 
 -- ---- reads
 
@@ -199,7 +200,7 @@ seek_rel len c o = seek_place len c (place_of (signed c.pos +ℤ o))
 -- a window over the first n bits: "bit count over limit or slice"
 abbrev pub window_of : Bool → Cursor → Result Cursor Refusal
 window_of true c = Ok c
-window_of false c = Err (record { number = 13; offset = 0 })
+window_of false c = Err (record { reason = reason 13; offset = 0 })
 
 unfoldable pub opened : ℕ → ℕ → Result Cursor Refusal
 opened len n = window_of (good_window len (record { start = 0; pos = 0; end = n })) (record { start = 0; pos = 0; end = n })

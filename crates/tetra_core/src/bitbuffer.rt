@@ -2,10 +2,11 @@
 // and the cursor goes in by value and comes back in the answer.
 ghost use Rattle.std.specs.Prelude.{◌≡◌, ◌+◌, ◌-◌, ◌*◌, ◌^◌, ◌≤◌, ◌<◌, true, false, length, ◌+ℤ◌, ltb};
 ghost use Rattle.bits.specs.Bits.{bits_of_nat, put_bits};
+ghost use Rattle.tetra_core.specs.Refusal.{number, refused_by};
 ghost use Rattle.tetra_core.specs.BitBuffer.{good_window, read_refusal, read_bits, peek_at, peek_bits_posoffset, write_refusal, write_bits, written, at, place_of, signed, read_refused, bytes_after, moves, moved, window_count, changed, seek_rel, opened, write_run, run_written, copy_refusal, copy_bits, copied, into_slice_refusal, read_bits_into_slice, sliced_bits, room_refusal, to_bitarr, bitarr, bitvec_refusal, into_bitvec, bitvec, from_bitarr_refusal, copy_bits_from_bitarr, from_bitarr};
 
-use crate::refusal::Refusal;
-use crate::{bitarr, refusal};
+use crate::bitarr;
+use crate::refusal::{Reason, Refusal};
 use bits::{span, word};
 
 // A window over a slice and the bit that it has reached. It is good where start <= pos <= end, and end is at most 65,536 and
@@ -28,7 +29,7 @@ pub struct Read<T> {
 #[derive(Clone, Copy)]
 pub struct Moved {
     pub cursor: Cursor,
-    pub answer: Result<(), u8>,
+    pub answer: Result<(), Reason>,
 }
 
 // Both cursors after a copy.
@@ -36,7 +37,7 @@ pub struct Moved {
 pub struct Copied {
     pub cursor: Cursor,
     pub source: Cursor,
-    pub answer: Result<(), u8>,
+    pub answer: Result<(), Reason>,
 }
 
 // Whether c is a good window on len bytes.
@@ -58,26 +59,26 @@ pub fn good_window(len: usize, c: Cursor) -> bool
     true
 }
 
-// Why num_bits bits from the bit p on are not read, or 0.
-fn read_refusal(len: usize, c: Cursor, p: usize, num_bits: usize) -> u8
-    ensures { result ≡ read_refusal len c p num_bits }
+// Why num_bits bits from the bit p on are not read, if so.
+fn read_refusal(len: usize, c: Cursor, p: usize, num_bits: usize) -> Result<(), Reason>
+    ensures { refused_by result ≡ read_refusal len c p num_bits }
 {
     if !good_window(len, c) {
-        return refusal::BAD_WINDOW;
+        return Err(Reason::BadWindow);
     }
     if 64 < num_bits {
-        return refusal::READ_PAST_END;
+        return Err(Reason::ReadPastEnd);
     }
     if p < c.start {
-        return refusal::READ_PAST_END;
+        return Err(Reason::ReadPastEnd);
     }
     if c.end < p {
-        return refusal::READ_PAST_END;
+        return Err(Reason::ReadPastEnd);
     }
     if c.end - p < num_bits {
-        return refusal::READ_PAST_END;
+        return Err(Reason::ReadPastEnd);
     }
-    0
+    Ok(())
 }
 
 // Whether value is a number of num_bits bits.
@@ -91,23 +92,23 @@ fn value_fits(value: u64, num_bits: usize) -> bool
     value < 1u64 << num_bits
 }
 
-// Why value is not written in num_bits bits, or 0.
-fn write_refusal(len: usize, c: Cursor, value: u64, num_bits: usize) -> u8
-    ensures { result ≡ write_refusal len c value num_bits }
+// Why value is not written in num_bits bits, if so.
+fn write_refusal(len: usize, c: Cursor, value: u64, num_bits: usize) -> Result<(), Reason>
+    ensures { refused_by result ≡ write_refusal len c value num_bits }
 {
     if !good_window(len, c) {
-        return refusal::BAD_WINDOW;
+        return Err(Reason::BadWindow);
     }
     if 64 < num_bits {
-        return refusal::WRITE_PAST_END;
+        return Err(Reason::WritePastEnd);
     }
     if !value_fits(value, num_bits) {
-        return refusal::VALUE_TOO_WIDE;
+        return Err(Reason::ValueTooWide);
     }
     if c.end - c.pos < num_bits {
-        return refusal::WRITE_PAST_END;
+        return Err(Reason::WritePastEnd);
     }
-    0
+    Ok(())
 }
 
 // The cursor at another bit.
@@ -121,30 +122,30 @@ fn moved_to(c: Cursor, p: usize) -> Cursor
     }
 }
 
-// The cursor n bits on, or where it was if a number other than 0 refuses the call.
-pub fn moved_unless(c: Cursor, number: u8, n: usize) -> Moved
-    requires { number ≡ 0 → c.pos + n ≤ 65536 }
-    ensures { result ≡ moves number c (moved c n) }
+// The cursor n bits on, or where it was if what is judged refuses the call.
+pub fn moved_unless(c: Cursor, judged: Result<(), Reason>, n: usize) -> Moved
+    requires { refused_by judged ≡ 0 → c.pos + n ≤ 65536 }
+    ensures { result ≡ moves (refused_by judged) c (moved c n) }
 {
-    if number != 0 {
-        return Moved {
+    match judged {
+        Ok(()) => Moved {
+            cursor: moved_to(c, c.pos + n),
+            answer: Ok(()),
+        },
+        Err(reason) => Moved {
             cursor: c,
-            answer: Err(number),
-        };
-    }
-    Moved {
-        cursor: moved_to(c, c.pos + n),
-        answer: Ok(()),
+            answer: Err(reason),
+        },
     }
 }
 
 // A read that is refused leaves the cursor.
-fn refused(c: Cursor, number: u8) -> Read<u64>
-    ensures { result ≡ read_refused c number }
+fn refused(c: Cursor, reason: Reason) -> Read<u64>
+    ensures { result ≡ read_refused c reason }
 {
     Read {
         cursor: c,
-        answer: Err(Refusal { number, offset: 0 }),
+        answer: Err(Refusal { reason, offset: 0 }),
     }
 }
 
@@ -153,14 +154,15 @@ pub fn read_bits(s: &[u8], c: Cursor, num_bits: usize) -> Read<u64>
     ensures { result ≡ read_bits s.now c num_bits }
 {
     let pos = c.pos;
-    let number = read_refusal(s.len(), c, pos, num_bits);
-    if number != 0 {
-        return refused(c, number);
-    }
-    let value = word::get_bits(s, pos, num_bits);
-    Read {
-        cursor: moved_to(c, pos + num_bits),
-        answer: Ok(value),
+    match read_refusal(s.len(), c, pos, num_bits) {
+        Ok(()) => {
+            let value = word::get_bits(s, pos, num_bits);
+            Read {
+                cursor: moved_to(c, pos + num_bits),
+                answer: Ok(value),
+            }
+        }
+        Err(reason) => refused(c, reason),
     }
 }
 
@@ -175,14 +177,15 @@ pub fn read_bit(s: &[u8], c: Cursor) -> Read<u64>
 fn peek_at(s: &[u8], c: Cursor, p: usize, num_bits: usize) -> Read<u64>
     ensures { result ≡ peek_at s.now c p num_bits }
 {
-    let number = read_refusal(s.len(), c, p, num_bits);
-    if number != 0 {
-        return refused(c, number);
-    }
-    let value = word::get_bits(s, p, num_bits);
-    Read {
-        cursor: c,
-        answer: Ok(value),
+    match read_refusal(s.len(), c, p, num_bits) {
+        Ok(()) => {
+            let value = word::get_bits(s, p, num_bits);
+            Read {
+                cursor: c,
+                answer: Ok(value),
+            }
+        }
+        Err(reason) => refused(c, reason),
     }
 }
 
@@ -215,12 +218,12 @@ pub fn peek_bits_posoffset(s: &[u8], c: Cursor, offset: isize, num_bits: usize) 
     ensures { result ≡ peek_bits_posoffset s.now c offset num_bits }
 {
     if !good_window(s.len(), c) {
-        return refused(c, refusal::BAD_WINDOW);
+        return refused(c, Reason::BadWindow);
     }
     let pos = c.pos;
     match place_of(pos, offset) {
         Some(p) => peek_at(s, c, p, num_bits),
-        None => refused(c, refusal::READ_PAST_END),
+        None => refused(c, Reason::ReadPastEnd),
     }
 }
 
@@ -229,57 +232,58 @@ pub fn peek_bits_startoffset(s: &[u8], c: Cursor, offset: usize, num_bits: usize
     ensures { result ≡ peek_at s.now c (c.start + offset) num_bits }
 {
     if !good_window(s.len(), c) {
-        return refused(c, refusal::BAD_WINDOW);
+        return refused(c, Reason::BadWindow);
     }
     if c.end - c.start < offset {
-        return refused(c, refusal::READ_PAST_END);
+        return refused(c, Reason::ReadPastEnd);
     }
     let p = c.start + offset;
     peek_at(s, c, p, num_bits)
 }
 
-// 13, or the number given where the window has fewer than num_bits bits from its cursor on, or 0.
-fn room_refusal(len: usize, c: Cursor, num_bits: usize, number: u8) -> u8
-    ensures { result ≡ room_refusal number len c num_bits }
+// BadWindow, or the reason given where the window has fewer than num_bits bits from its cursor on, if so.
+fn room_refusal(len: usize, c: Cursor, num_bits: usize, reason: Reason) -> Result<(), Reason>
+    ensures { refused_by result ≡ room_refusal (number reason) len c num_bits }
 {
     if !good_window(len, c) {
-        return refusal::BAD_WINDOW;
+        return Err(Reason::BadWindow);
     }
     if c.end - c.pos < num_bits {
-        return number;
+        return Err(reason);
     }
-    0
+    Ok(())
 }
 
-// Why num_bits bits are not read into room bytes, or 0.
-fn into_slice_refusal(len: usize, c: Cursor, num_bits: usize, room: usize) -> u8
-    ensures { result ≡ into_slice_refusal len c num_bits room }
+// Why num_bits bits are not read into room bytes, if so.
+fn into_slice_refusal(len: usize, c: Cursor, num_bits: usize, room: usize) -> Result<(), Reason>
+    ensures { refused_by result ≡ into_slice_refusal len c num_bits room }
 {
     if !good_window(len, c) {
-        return refusal::BAD_WINDOW;
+        return Err(Reason::BadWindow);
     }
     if c.end - c.pos < num_bits {
-        return refusal::READ_PAST_END;
+        return Err(Reason::ReadPastEnd);
     }
     if room < (num_bits + 7) / 8 {
-        return refusal::WRITE_PAST_END;
+        return Err(Reason::WritePastEnd);
     }
-    0
+    Ok(())
 }
 
 // Reads num_bits bits into the first bytes of buf, the last one filled up with zeros.
 pub fn read_bits_into_slice(s: &[u8], c: Cursor, num_bits: usize, buf: &mut [u8]) -> Read<u64>
     ensures { (result ≡ read_bits_into_slice s.now c num_bits buf.old) × (buf.new ≡ sliced_bits s.now c num_bits buf.old) }
 {
-    let number = into_slice_refusal(s.len(), c, num_bits, buf.len());
-    if number != 0 {
-        return refused(c, number);
-    }
-    let pos = c.pos;
-    bitarr::copy_octets(buf, s, pos, num_bits);
-    Read {
-        cursor: moved_to(c, pos + num_bits),
-        answer: Ok(num_bits as u64),
+    match into_slice_refusal(s.len(), c, num_bits, buf.len()) {
+        Ok(()) => {
+            let pos = c.pos;
+            bitarr::copy_octets(buf, s, pos, num_bits);
+            Read {
+                cursor: moved_to(c, pos + num_bits),
+                answer: Ok(num_bits as u64),
+            }
+        }
+        Err(reason) => refused(c, reason),
     }
 }
 
@@ -288,54 +292,56 @@ pub fn to_bitarr(s: &[u8], c: Cursor, buf: &mut [u8]) -> Read<u64>
     ensures { (result ≡ to_bitarr s.now c buf.old) × (buf.new ≡ bitarr s.now c buf.old) }
 {
     let n = buf.len();
-    let number = room_refusal(s.len(), c, n, refusal::READ_PAST_END);
-    if number != 0 {
-        return refused(c, number);
-    }
-    let pos = c.pos;
-    bitarr::spread_all(buf, s, pos);
-    Read {
-        cursor: moved_to(c, pos + n),
-        answer: Ok(n as u64),
+    match room_refusal(s.len(), c, n, Reason::ReadPastEnd) {
+        Ok(()) => {
+            let pos = c.pos;
+            bitarr::spread_all(buf, s, pos);
+            Read {
+                cursor: moved_to(c, pos + n),
+                answer: Ok(n as u64),
+            }
+        }
+        Err(reason) => refused(c, reason),
     }
 }
 
-// Why the window's bits are not read into room bytes, or 0.
-fn bitvec_refusal(len: usize, c: Cursor, room: usize) -> u8
-    ensures { result ≡ bitvec_refusal len c room }
+// Why the window's bits are not read into room bytes, if so.
+fn bitvec_refusal(len: usize, c: Cursor, room: usize) -> Result<(), Reason>
+    ensures { refused_by result ≡ bitvec_refusal len c room }
 {
     if !good_window(len, c) {
-        return refusal::BAD_WINDOW;
+        return Err(Reason::BadWindow);
     }
     if room < c.end - c.start {
-        return refusal::WRITE_PAST_END;
+        return Err(Reason::WritePastEnd);
     }
-    0
+    Ok(())
 }
 
 // The whole window, wherever its cursor is: each bit into a byte, as 0 or 1. Leaves the bytes of buf behind them.
 pub fn into_bitvec(s: &[u8], c: Cursor, buf: &mut [u8]) -> Read<u64>
     ensures { (result ≡ into_bitvec s.now c buf.old) × (buf.new ≡ bitvec s.now c buf.old) }
 {
-    let number = bitvec_refusal(s.len(), c, buf.len());
-    if number != 0 {
-        return refused(c, number);
-    }
-    let start = c.start;
-    let n = c.end - start;
-    bitarr::spread_all(&mut buf[..n], s, start);
-    Read {
-        cursor: c,
-        answer: Ok(n as u64),
+    match bitvec_refusal(s.len(), c, buf.len()) {
+        Ok(()) => {
+            let start = c.start;
+            let n = c.end - start;
+            bitarr::spread_all(&mut buf[..n], s, start);
+            Read {
+                cursor: c,
+                answer: Ok(n as u64),
+            }
+        }
+        Err(reason) => refused(c, reason),
     }
 }
 
-// Puts value into num_bits bits at the cursor, or nothing if a number other than 0 refuses the call.
-fn put_unless(s: &mut [u8], c: Cursor, value: u64, num_bits: usize, number: u8)
-    requires { number ≡ 0 → (c.pos + num_bits ≤ 8 * length s.old) × (num_bits ≤ 64) × (c.pos ≤ 65536) × (value < 2 ^ num_bits) }
-    ensures { s.new ≡ bytes_after number s.old (put_bits s.old c.pos (bits_of_nat num_bits value)) }
+// Puts value into num_bits bits at the cursor, or nothing if what is judged refuses the call.
+fn put_unless(s: &mut [u8], c: Cursor, value: u64, num_bits: usize, judged: Result<(), Reason>)
+    requires { refused_by judged ≡ 0 → (c.pos + num_bits ≤ 8 * length s.old) × (num_bits ≤ 64) × (c.pos ≤ 65536) × (value < 2 ^ num_bits) }
+    ensures { s.new ≡ bytes_after (refused_by judged) s.old (put_bits s.old c.pos (bits_of_nat num_bits value)) }
 {
-    if number != 0 {
+    if judged.is_err() {
         return;
     }
     word::put_bits(s, c.pos, num_bits, value);
@@ -345,9 +351,9 @@ fn put_unless(s: &mut [u8], c: Cursor, value: u64, num_bits: usize, number: u8)
 pub fn write_bits(s: &mut [u8], c: Cursor, value: u64, num_bits: usize) -> Moved
     ensures { (result ≡ write_bits s.old c value num_bits) × (s.new ≡ written s.old c value num_bits) }
 {
-    let number = write_refusal(s.len(), c, value, num_bits);
-    put_unless(s, c, value, num_bits, number);
-    moved_unless(c, number, num_bits)
+    let judged = write_refusal(s.len(), c, value, num_bits);
+    put_unless(s, c, value, num_bits, judged);
+    moved_unless(c, judged, num_bits)
 }
 
 // Writes one bit: 0 or 1.
@@ -361,18 +367,19 @@ pub fn write_bit(s: &mut [u8], c: Cursor, value: u8) -> Moved
 fn write_run(s: &mut [u8], c: Cursor, num_bits: usize, ones: bool) -> Moved
     ensures { (result ≡ write_run s.old c num_bits) × (s.new ≡ run_written ones s.old c num_bits) }
 {
-    let number = room_refusal(s.len(), c, num_bits, refusal::WRITE_PAST_END);
-    if number != 0 {
-        return Moved {
+    match room_refusal(s.len(), c, num_bits, Reason::WritePastEnd) {
+        Ok(()) => {
+            let pos = c.pos;
+            span::put_span(s, pos, num_bits, ones);
+            Moved {
+                cursor: moved_to(c, pos + num_bits),
+                answer: Ok(()),
+            }
+        }
+        Err(reason) => Moved {
             cursor: c,
-            answer: Err(number),
-        };
-    }
-    let pos = c.pos;
-    span::put_span(s, pos, num_bits, ones);
-    Moved {
-        cursor: moved_to(c, pos + num_bits),
-        answer: Ok(()),
+            answer: Err(reason),
+        },
     }
 }
 
@@ -390,79 +397,87 @@ pub fn write_ones(s: &mut [u8], c: Cursor, num_bits: usize) -> Moved
     write_run(s, c, num_bits, true)
 }
 
-// Why num_bits bits at c are not copied to d, or 0.
-fn copy_refusal(t_len: usize, d: Cursor, s_len: usize, c: Cursor, num_bits: usize) -> u8
-    ensures { result ≡ copy_refusal t_len d s_len c num_bits }
+// Why num_bits bits at c are not copied to d, if so.
+fn copy_refusal(
+    t_len: usize,
+    d: Cursor,
+    s_len: usize,
+    c: Cursor,
+    num_bits: usize,
+) -> Result<(), Reason>
+    ensures { refused_by result ≡ copy_refusal t_len d s_len c num_bits }
 {
     if !good_window(t_len, d) {
-        return refusal::BAD_WINDOW;
+        return Err(Reason::BadWindow);
     }
     if !good_window(s_len, c) {
-        return refusal::BAD_WINDOW;
+        return Err(Reason::BadWindow);
     }
     if c.end - c.pos < num_bits {
-        return refusal::READ_PAST_END;
+        return Err(Reason::ReadPastEnd);
     }
     if d.end - d.pos < num_bits {
-        return refusal::WRITE_PAST_END;
+        return Err(Reason::WritePastEnd);
     }
-    0
+    Ok(())
 }
 
 // Copies num_bits bits of s at its cursor c into t at its cursor d.
 pub fn copy_bits(t: &mut [u8], d: Cursor, s: &[u8], c: Cursor, num_bits: usize) -> Copied
     ensures { (result ≡ copy_bits t.old d s.now c num_bits) × (t.new ≡ copied t.old d s.now c num_bits) }
 {
-    let number = copy_refusal(t.len(), d, s.len(), c, num_bits);
-    if number != 0 {
-        return Copied {
+    match copy_refusal(t.len(), d, s.len(), c, num_bits) {
+        Ok(()) => {
+            let to = d.pos;
+            let from = c.pos;
+            span::copy_span(t, to, s, from, num_bits);
+            Copied {
+                cursor: moved_to(d, to + num_bits),
+                source: moved_to(c, from + num_bits),
+                answer: Ok(()),
+            }
+        }
+        Err(reason) => Copied {
             cursor: d,
             source: c,
-            answer: Err(number),
-        };
-    }
-    let to = d.pos;
-    let from = c.pos;
-    span::copy_span(t, to, s, from, num_bits);
-    Copied {
-        cursor: moved_to(d, to + num_bits),
-        source: moved_to(c, from + num_bits),
-        answer: Ok(()),
+            answer: Err(reason),
+        },
     }
 }
 
-// Why the bytes of buf are not written as bits, or 0.
-fn from_bitarr_refusal(len: usize, c: Cursor, buf: &[u8]) -> u8
-    ensures { result ≡ from_bitarr_refusal len c buf.now }
+// Why the bytes of buf are not written as bits, if so.
+fn from_bitarr_refusal(len: usize, c: Cursor, buf: &[u8]) -> Result<(), Reason>
+    ensures { refused_by result ≡ from_bitarr_refusal len c buf.now }
 {
     if !good_window(len, c) {
-        return refusal::BAD_WINDOW;
+        return Err(Reason::BadWindow);
     }
     if !bitarr::all_bits(buf) {
-        return refusal::VALUE_TOO_WIDE;
+        return Err(Reason::ValueTooWide);
     }
     if c.end - c.pos < buf.len() {
-        return refusal::WRITE_PAST_END;
+        return Err(Reason::WritePastEnd);
     }
-    0
+    Ok(())
 }
 
 // Writes each byte of buf, 0 or 1, as a bit. All are judged before the first is written.
 pub fn copy_bits_from_bitarr(s: &mut [u8], c: Cursor, buf: &[u8]) -> Moved
     ensures { (result ≡ copy_bits_from_bitarr s.old c buf.now) × (s.new ≡ from_bitarr s.old c buf.now) }
 {
-    let number = from_bitarr_refusal(s.len(), c, buf);
-    if number != 0 {
-        return Moved {
+    match from_bitarr_refusal(s.len(), c, buf) {
+        Ok(()) => {
+            let pos = c.pos;
+            bitarr::gather_all(s, pos, buf);
+            Moved {
+                cursor: moved_to(c, pos + buf.len()),
+                answer: Ok(()),
+            }
+        }
+        Err(reason) => Moved {
             cursor: c,
-            answer: Err(number),
-        };
-    }
-    let pos = c.pos;
-    bitarr::gather_all(s, pos, buf);
-    Moved {
-        cursor: moved_to(c, pos + buf.len()),
-        answer: Ok(()),
+            answer: Err(reason),
+        },
     }
 }
 
@@ -477,7 +492,7 @@ fn window_count(len: usize, c: Cursor, a: usize, b: usize) -> Result<u64, Refusa
         return Ok(0);
     }
     Err(Refusal {
-        number: refusal::BAD_WINDOW,
+        reason: Reason::BadWindow,
         offset: 0,
     })
 }
@@ -516,7 +531,7 @@ fn unchanged(c: Cursor) -> Moved
 {
     Moved {
         cursor: c,
-        answer: Err(refusal::BAD_WINDOW),
+        answer: Err(Reason::BadWindow),
     }
 }
 
@@ -650,7 +665,7 @@ pub fn new(s: &[u8], len_bits: usize) -> Result<Cursor, Refusal>
         return Ok(c);
     }
     Err(Refusal {
-        number: refusal::BAD_WINDOW,
+        reason: Reason::BadWindow,
         offset: 0,
     })
 }
@@ -664,7 +679,7 @@ pub fn from_bytes(s: &[u8]) -> Result<Cursor, Refusal>
         return new(s, 8 * len);
     }
     Err(Refusal {
-        number: refusal::BAD_WINDOW,
+        reason: Reason::BadWindow,
         offset: 0,
     })
 }

@@ -2,7 +2,7 @@
 ghost use Rattle.std.specs.Prelude.{◌≡◌, ◌*◌};
 ghost use Rattle.tetra_core.specs.Quantity.{octet_count};
 
-use crate::refusal;
+use crate::refusal::Reason;
 
 // A length in octets, as total_len_bytes of the Rust.
 #[derive(Clone, Copy)]
@@ -30,11 +30,11 @@ pub fn octets_to_bits(n: Octets) -> Bits
 }
 
 // The octets that a number of bits takes up, rounded up, and the fill: the bits short of them.
-pub fn count_octets(bits: usize) -> Result<OctetCount, u8>
+pub fn count_octets(bits: usize) -> Result<OctetCount, Reason>
     ensures { result ≡ octet_count bits }
 {
     if 8 * MOST_OCTETS < bits {
-        return Err(refusal::LENGTH);
+        return Err(Reason::Length);
     }
     let octets = (bits + 7) / 8;
     Ok(OctetCount {

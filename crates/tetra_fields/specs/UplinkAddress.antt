@@ -1,6 +1,6 @@
 -- The address of a MAC-ACCESS or MAC-DATA (document 01): "address type 2 (0 SSI, 1 label, 2 USSI, 3 SMI), address"; "SSI, USSI and SMI have
 -- 24 bits, label 10".
-use Rattle.std.specs.Prelude.{ℕ, ◌^◌, List, [], ◌∷◌, Bool, not, cond, get_or, eqb, ltb}
+use Rattle.std.specs.Prelude.{ℕ, ◌%◌, ◌^◌, List, [], ◌∷◌, Bool, not, cond, get_or, eqb, ltb, Result}
 use Rattle.tetra_core.specs.Address.{uplink_address_type}
 use Rattle.tetra_core.specs.Refusal.{unless}
 use Rattle.tetra_core.specs.declared.address.SsiType.TheVariants as Kind'
@@ -8,6 +8,26 @@ use Rattle.tetra_core.specs.declared.address.UplinkAddress.{UplinkAddress}
 use Rattle.tetra_core.specs.declared.address.UplinkAddress.TheVariants.{Ssi, EventLabel, Ussi, Smi}
 use Rattle.codec.specs.Reader.{Reader, done, field, ◌>>=◌}
 use Rattle.codec.specs.Row.{Cell, cell}
+use Rattle.codec.specs.Cases.{case_up_to}
+use Rattle.codec.specs.declared.cases.NoCase.{NoCase}
+use Rattle.tetra_fields.specs.declared.enums.uplink_addr_type.UplinkAddrType.{UplinkAddrType}
+use Rattle.tetra_fields.specs.declared.enums.uplink_addr_type.UplinkAddrType.TheVariants as Type'
+
+-- ---- the number of each address type, as `uplink_address_type` has it, and its bits
+
+abbrev pub uplink_type_number : UplinkAddrType → ℕ
+uplink_type_number Type'.Ssi = 0
+uplink_type_number Type'.EventLabel = 1
+uplink_type_number Type'.Ussi = 2
+uplink_type_number Type'.Smi = 3
+
+-- the case of a field's bits, the low 2 of a number; 3 is the last number of 2 bits
+unfoldable pub uplink_type_of : ℕ → UplinkAddrType
+uplink_type_of v = get_or (Type'.Ssi ∷ Type'.EventLabel ∷ Type'.Ussi ∷ []) (v % 4) Type'.Smi
+
+-- of a number, where it is one of 2 bits
+abbrev pub uplink_type_case : ℕ → Result UplinkAddrType NoCase
+uplink_type_case = case_up_to 3 uplink_type_of
 
 -- the most bits of an address
 abbrev pub uplink_most : ℕ

@@ -2,3 +2,4 @@
 pub mod basic_slotgrant_cap_alloc;
 pub mod basic_slotgrant_granting_delay;
 pub mod reservation_requirement;
+pub mod uplink_addr_type;

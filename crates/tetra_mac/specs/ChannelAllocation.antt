@@ -2,8 +2,10 @@
 -- cell change; carrier; monitoring pattern; frame-18 pattern present; frame-18 pattern.
 use Rattle.std.specs.Prelude.{ℕ, min, List, [], ◌∷◌, Bool, cond, ◌&&◌, length, eqb, leb, Err, None, Ok, Option, Result, Some}
 use Rattle.bits.specs.Bits.{digit}
+use Rattle.tetra_core.specs.Refusal.{number}
 use Rattle.tetra_core.specs.declared.bitbuffer.Cursor.{Cursor}
 use Rattle.tetra_core.specs.declared.quantity.Bits.{Bits}
+use Rattle.tetra_core.specs.declared.refusal.Reason.{Reason}
 use Rattle.codec.specs.Cases.{flag}
 use Rattle.channel_allocation.specs.ChannelAllocation.{alloc_type_number, alloc_type_of, ul_dl_number, ul_dl_of, timeslots_number, timeslots_of, frame18_number, channel_allocation_at, channel_allocation_write, channel_allocation_written, compute_len}
 use Rattle.channel_allocation.specs.declared.channel_allocation.ChanAllocElement.{ChanAllocElement}
@@ -61,9 +63,9 @@ abbrev pub channel_allocation_write_reply : List ℕ → Cursor → List ℕ →
 channel_allocation_write_reply s c ws out =
     write_reply (channel_allocation_write s c) (channel_allocation_written s c) s (channel_allocation_of_words ws) out
 
-abbrev pub chan_alloc_len_reply : List ℕ → Result Bits ℕ → Reply
+abbrev pub chan_alloc_len_reply : List ℕ → Result Bits Reason → Reply
 chan_alloc_len_reply out (Ok n) = counted_reply out (n.0 ∷ [])
-chan_alloc_len_reply out (Err j) = replied j out
+chan_alloc_len_reply out (Err r) = replied (number r) out
 
 abbrev pub channel_allocation_len_reply : List ℕ → List ℕ → Reply
 channel_allocation_len_reply ws out = record_reply (λ e. chan_alloc_len_reply out (compute_len e)) 1 (channel_allocation_of_words ws) out

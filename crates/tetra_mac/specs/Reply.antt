@@ -2,9 +2,11 @@
 -- true, and is read back as 0 or 1.
 use Rattle.std.specs.Prelude.{ℕ, ◌+◌, ◌*◌, List, [], ◌∷◌, Bool, cond, length, get_or, leb, Err, Ok, Result, Option, Some, None}
 use Rattle.std.proofs.lemmas.List.Edits.{sets}
+use Rattle.tetra_core.specs.Refusal.{number}
 use Rattle.tetra_core.specs.declared.bitbuffer.Cursor.{Cursor}
 use Rattle.tetra_core.specs.declared.bitbuffer.Moved.{Moved}
 use Rattle.tetra_core.specs.declared.bitbuffer.Read.{Read}
+use Rattle.tetra_core.specs.declared.refusal.Reason.{Reason}
 use Rattle.tetra_core.specs.declared.refusal.Refusal.{Refusal}
 
 -- a status, and out as the call leaves it
@@ -39,14 +41,14 @@ given_reply out at ws = replied 0 (put_first out (at ∷ ws))
 
 -- the refusal's number and, for a read, 256 times the first bit of the refused field
 abbrev pub status_of : Refusal → ℕ
-status_of r = r.number + 256 * r.offset
+status_of r = number r.reason + 256 * r.offset
 
 abbrev pub denied_reply : List ℕ → ℕ → Refusal → Reply
 denied_reply out at r = replied (status_of r) (put_first out (at ∷ []))
 
-abbrev pub outcome_status : Result (Unit {0}) ℕ → ℕ
+abbrev pub outcome_status : Result (Unit {0}) Reason → ℕ
 outcome_status (Ok tt) = 0
-outcome_status (Err j) = j
+outcome_status (Err r) = number r
 
 abbrev pub moved_reply : List ℕ → Moved → Reply
 moved_reply out m = replied (outcome_status m.answer) (put_first out (m.cursor.pos ∷ []))

@@ -1,7 +1,6 @@
 // The MAC-ACCESS as a record of 8 words: fill bits, encrypted, address type, SSI kind, address number, option, length or fragment flag,
 // reservation code.
 ghost use Rattle.std.specs.Prelude.{◌≡◌, ◌≤◌, length};
-ghost use Rattle.mac_access.specs.MacAccess.{mac_access_write, mac_access_written};
 ghost use Rattle.tetra_mac.specs.Reply.{replied, wrote, window};
 ghost use Rattle.tetra_mac.specs.MacAccess.{option_kind, option_first, option_reservation, option_known, option_value, mac_access_words, mac_access_known, mac_access_value, mac_access_read_reply, mac_access_write_reply};
 ghost use Rattle.tetra_mac.specs.Laws.MacAccess.{mac_access_long, mac_access_placed};
@@ -9,7 +8,7 @@ ghost use Rattle.tetra_mac.specs.Laws.MacAccess.{mac_access_long, mac_access_pla
 use crate::record::Record;
 use crate::{address, record};
 use mac_access::mac_access::{MacAccess, MacAccessOption};
-use tetra_core::bitbuffer::{Cursor, Moved};
+use tetra_core::bitbuffer::Cursor;
 use tetra_fields::enums::reservation_requirement::ReservationRequirement;
 use tetra_fields::fields::uplink_address;
 
@@ -95,10 +94,6 @@ impl Record<WORDS> for MacAccess {
 
     ghost value = { mac_access_value };
 
-    ghost write = { mac_access_write };
-
-    ghost written = { mac_access_written };
-
     fn words(h: MacAccess) -> [u64; WORDS] {
         let a = h.addr;
         let o = h.option;
@@ -131,10 +126,6 @@ impl Record<WORDS> for MacAccess {
             addr: address::uplink_value(words[ADDRESS_TYPE], words[SSI_KIND], words[ADDRESS]),
             option: option_value(words[OPTION], words[OPTION_FIRST], words[RESERVATION]),
         }
-    }
-
-    fn to_bitbuf(s: &mut [u8], c: Cursor, h: MacAccess) -> Moved {
-        mac_access::mac_access::to_bitbuf(s, c, h)
     }
 
     ghost long = { mac_access_long };

@@ -1,7 +1,6 @@
 // The channel allocation as a record of 9 words: allocation type, timeslots, direction, CLCH permission, cell change, carrier, monitoring
 // pattern, whether there is a frame-18 pattern, frame-18 pattern.
 ghost use Rattle.std.specs.Prelude.{◌≡◌, ◌≤◌, length};
-ghost use Rattle.channel_allocation.specs.ChannelAllocation.{channel_allocation_write, channel_allocation_written};
 ghost use Rattle.tetra_mac.specs.Reply.{replied, wrote, window};
 ghost use Rattle.tetra_mac.specs.ChannelAllocation.{frame18_present, frame18_value, channel_allocation_words, channel_allocation_known, channel_allocation_value, channel_allocation_read_reply, channel_allocation_write_reply, channel_allocation_len_reply};
 ghost use Rattle.tetra_mac.specs.Laws.ChannelAllocation.{channel_allocation-long, channel_allocation-placed};
@@ -12,7 +11,7 @@ use channel_allocation::channel_allocation as allocation;
 use channel_allocation::channel_allocation::ChanAllocElement;
 use channel_allocation::enums::alloc_type::ChanAllocType;
 use channel_allocation::enums::ul_dl_assignment::UlDlAssignment;
-use tetra_core::bitbuffer::{Cursor, Moved};
+use tetra_core::bitbuffer::Cursor;
 
 // The places of the record, and its words; a read has the cursor before them.
 const ALLOC_TYPE: usize = 0;
@@ -120,10 +119,6 @@ impl Record<WORDS> for ChanAllocElement {
 
     ghost value = { channel_allocation_value };
 
-    ghost write = { channel_allocation_write };
-
-    ghost written = { channel_allocation_written };
-
     fn words(h: ChanAllocElement) -> [u64; WORDS] {
         channel_allocation_words(h)
     }
@@ -134,10 +129,6 @@ impl Record<WORDS> for ChanAllocElement {
 
     fn value(words: &[u64]) -> ChanAllocElement {
         channel_allocation_value(words)
-    }
-
-    fn to_bitbuf(s: &mut [u8], c: Cursor, h: ChanAllocElement) -> Moved {
-        allocation::to_bitbuf(s, c, h)
     }
 
     ghost long = { channel_allocation-long };
@@ -187,6 +178,6 @@ pub fn tetra_channel_allocation_len(words: &[u64], out: &mut [u64]) -> u64
             out[0] = n.0 as u64;
             0
         }
-        Err(number) => number as u64,
+        Err(reason) => reason.number() as u64,
     }
 }

@@ -1,7 +1,6 @@
 // The ACCESS-ASSIGN as a record of 5 words: header, and two words for each field. An access field is its access code and its base
 // frame-length code, a usage is its kind and its traffic number.
 ghost use Rattle.std.specs.Prelude.{◌≡◌, [], ◌∷◌, ◌≤◌, length};
-ghost use Rattle.access_assign.specs.AccessAssign.{access_assign_write, access_assign_written};
 ghost use Rattle.tetra_mac.specs.Reply.{replied, wrote, window, word};
 ghost use Rattle.tetra_mac.specs.AccessAssign.{field_words, dl_kind, dl_traffic, dl_words, ul_kind, ul_traffic, ul_words, field_known, field_value, dl_value, ul_value, one_known, two_known, access_assign_words, access_assign_known, access_assign_value, access_assign_read_reply, access_assign_write_reply};
 ghost use Rattle.tetra_mac.specs.Laws.AccessAssign.{access_assign_long, access_assign_placed};
@@ -14,7 +13,7 @@ use access_assign::enums::access_assign_ul_usage::AccessAssignUlUsage;
 use access_assign::enums::access_code::AccessCode;
 use access_assign::structs::access_field::AccessField;
 use access_assign::structs::base_frame_length::BaseFrameLength;
-use tetra_core::bitbuffer::{Cursor, Moved};
+use tetra_core::bitbuffer::Cursor;
 
 // The places of the record, and its words; a read has the cursor before them.
 const HEADER: usize = 0;
@@ -176,10 +175,6 @@ impl Record<WORDS> for AccessAssign {
 
     ghost value = { access_assign_value };
 
-    ghost write = { access_assign_write };
-
-    ghost written = { access_assign_written };
-
     fn words(a: AccessAssign) -> [u64; WORDS] {
         match a {
             AccessAssign::DownlinkCommonControlUplinkCommonOnly {
@@ -247,10 +242,6 @@ impl Record<WORDS> for AccessAssign {
                 uplink_usage_marker: ul_value(c, d),
             },
         }
-    }
-
-    fn to_bitbuf(s: &mut [u8], c: Cursor, h: AccessAssign) -> Moved {
-        access_assign::access_assign::to_bitbuf(s, c, h)
     }
 
     ghost long = { access_assign_long };

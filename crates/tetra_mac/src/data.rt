@@ -1,6 +1,5 @@
 // The MAC-DATA as a record of 8 words: that of a MAC-ACCESS with the same address and option, of which there is always one.
 ghost use Rattle.std.specs.Prelude.{◌≡◌};
-ghost use Rattle.mac_data.specs.MacData.{mac_data_write, mac_data_written};
 ghost use Rattle.tetra_mac.specs.Reply.{replied, wrote, window};
 ghost use Rattle.tetra_mac.specs.MacAccess.{mac_access_value};
 ghost use Rattle.tetra_mac.specs.MacData.{access_option, data_option, as_access, as_data, mac_data_words, mac_data_known, mac_data_read_reply, mac_data_write_reply};
@@ -11,7 +10,7 @@ use crate::record;
 use crate::record::Record;
 use mac_access::mac_access::{MacAccess, MacAccessOption};
 use mac_data::mac_data::{MacData, MacDataOption};
-use tetra_core::bitbuffer::{Cursor, Moved};
+use tetra_core::bitbuffer::Cursor;
 
 fn access_option(o: MacDataOption) -> MacAccessOption
     ensures { result ≡ access_option o }
@@ -66,10 +65,6 @@ impl Record<WORDS> for MacData {
 
     ghost value = { λ ws. as_data (mac_access_value ws) };
 
-    ghost write = { mac_data_write };
-
-    ghost written = { mac_data_written };
-
     fn words(h: MacData) -> [u64; WORDS] {
         MacAccess::words(as_access(h))
     }
@@ -83,10 +78,6 @@ impl Record<WORDS> for MacData {
 
     fn value(words: &[u64]) -> MacData {
         as_data(MacAccess::value(words))
-    }
-
-    fn to_bitbuf(s: &mut [u8], c: Cursor, h: MacData) -> Moved {
-        mac_data::mac_data::to_bitbuf(s, c, h)
     }
 
     ghost long = { mac_data_long };

@@ -2,14 +2,14 @@
 // to the type of their field.
 ghost use Rattle.std.specs.Prelude.{ℕ, List, Bool, true, ◌≡◌, ◌+◌, ◌≤◌, ◌<◌, min, length};
 ghost use Rattle.std.proofs.lemmas.List.Edits.{sets};
-ghost use Rattle.tetra_core.specs.declared.bitbuffer.Cursor.{Cursor};
-ghost use Rattle.tetra_core.specs.declared.bitbuffer.Moved.{Moved};
 ghost use Rattle.codec.specs.Header.{at_cursor};
+ghost use Rattle.codec.specs.Write.{write_at, written_at};
 ghost use Rattle.tetra_mac.specs.Reply.{replied, wrote, status_of, given_reply, denied_reply, moved_reply, header_read_reply, write_reply, value_if};
 ghost use Rattle.tetra_mac.specs.Laws.Placed.{Placed};
 
-use codec::header;
+use codec::encoded::Encode;
 use codec::header::Header;
+use codec::{encoded, header};
 use tetra_core::bitbuffer::{Cursor, Moved};
 use tetra_core::refusal::Refusal;
 
@@ -41,7 +41,7 @@ pub fn status(r: Refusal) -> u64
     requires { r.offset ≤ 65536 }
     ensures { result ≡ status_of r }
 {
-    r.number as u64 + 256 * r.offset as u64
+    r.reason.number() as u64 + 256 * r.offset as u64
 }
 
 // Puts the cursor's bit into out: the status of a refused read.
@@ -62,21 +62,17 @@ pub fn moved(out: &mut [u64], m: Moved) -> u64
     let answer = m.answer;
     match answer {
         Ok(()) => 0,
-        Err(number) => number as u64,
+        Err(reason) => reason.number() as u64,
     }
 }
 
 // A header that crosses as a record of N words.
-pub trait Record<const N: usize>: Header {
+pub trait Record<const N: usize>: Header + Encode {
     ghost words_of: { Self → List ℕ };
 
     ghost known: { List ℕ → Bool };
 
     ghost value: { List ℕ → Self };
-
-    ghost write: { List ℕ → Cursor → Self → Moved };
-
-    ghost written: { List ℕ → Cursor → Self → List ℕ };
 
     // The words of a header.
     fn words(h: Self) -> [u64; N]
@@ -90,10 +86,6 @@ pub trait Record<const N: usize>: Header {
     fn value(words: &[u64]) -> Self
         requires { N ≤ length words.now }
         ensures { result ≡ value words.now };
-
-    // Writes a header at the cursor.
-    fn to_bitbuf(s: &mut [u8], c: Cursor, h: Self) -> Moved
-        ensures { (result ≡ write s.old c h) × (s.new ≡ written s.old c h) };
 
     ghost long: { (ws : List ℕ) → known ws ≡ true → N ≤ length ws };
 
@@ -127,7 +119,7 @@ pub(crate) fn write<const N: usize, T: Record<N>>(
     words: &[u64],
     out: &mut [u64],
 ) -> u64
-    ensures { wrote result out.new s.new ≡ write_reply (T.write s.old c) (T.written s.old c) s.old (value_if (T.known words.now) (T.value words.now)) out.old }
+    ensures { wrote result out.new s.new ≡ write_reply (λ h. write_at s.old c (T.refused h) (T.bits h)) (λ h. written_at s.old c (T.refused h) (T.bits h)) s.old (value_if (T.known words.now) (T.value words.now)) out.old }
 {
     if out.len() < 1 {
         return MALFORMED;
@@ -136,7 +128,7 @@ pub(crate) fn write<const N: usize, T: Record<N>>(
         return MALFORMED;
     }
     let h = T::value(words);
-    let done = T::to_bitbuf(s, c, h);
+    let done = encoded::to_bitbuf(s, c, h);
     moved(out, done)
 }
 

@@ -1,16 +1,14 @@
 // The slot grant as a record of 3 words: capacity code, delay kind, delay count.
 ghost use Rattle.std.specs.Prelude.{◌≡◌, ◌≤◌, length};
-ghost use Rattle.tetra_fields.specs.BasicSlotgrant.{slotgrant_write, slotgrant_written};
 ghost use Rattle.tetra_mac.specs.Reply.{replied, wrote, window};
 ghost use Rattle.tetra_mac.specs.Slotgrant.{delay_kind, delay_count, delay_value, slotgrant_words, slotgrant_known, slotgrant_value, slotgrant_read_reply, slotgrant_write_reply};
 ghost use Rattle.tetra_mac.specs.Laws.Slotgrant.{slotgrant_long, slotgrant_placed};
 
 use crate::record;
 use crate::record::Record;
-use tetra_core::bitbuffer::{Cursor, Moved};
+use tetra_core::bitbuffer::Cursor;
 use tetra_fields::enums::basic_slotgrant_cap_alloc::BasicSlotgrantCapAlloc;
 use tetra_fields::enums::basic_slotgrant_granting_delay::BasicSlotgrantGrantingDelay;
-use tetra_fields::fields::basic_slotgrant;
 use tetra_fields::fields::basic_slotgrant::BasicSlotgrant;
 
 // The places of the record, and its words; a read has the cursor before them.
@@ -99,10 +97,6 @@ impl Record<WORDS> for BasicSlotgrant {
 
     ghost value = { slotgrant_value };
 
-    ghost write = { slotgrant_write };
-
-    ghost written = { slotgrant_written };
-
     fn words(h: BasicSlotgrant) -> [u64; WORDS] {
         slotgrant_words(h)
     }
@@ -113,10 +107,6 @@ impl Record<WORDS> for BasicSlotgrant {
 
     fn value(words: &[u64]) -> BasicSlotgrant {
         slotgrant_value(words)
-    }
-
-    fn to_bitbuf(s: &mut [u8], c: Cursor, h: BasicSlotgrant) -> Moved {
-        basic_slotgrant::to_bitbuf(s, c, h)
     }
 
     ghost long = { slotgrant_long };

@@ -23,7 +23,6 @@ use optional_elements::elements::Elements;
 use optional_elements::grant_and_allocation::GrantAndAllocation;
 use tetra_core::address::DownlinkAddress;
 use tetra_core::bitbuffer::Cursor;
-use tetra_core::refusal;
 use tetra_fields::fields::basic_slotgrant::BasicSlotgrant;
 use tetra_mac::{address, allocation, record, slotgrant};
 
@@ -365,13 +364,13 @@ fn rest_of(words: &[u64], null: bool) -> Encoded
 {
     if null {
         return Encoded {
-            number: refusal::NONE,
+            judged: Ok(()),
             piece: Piece { value: 0, bits: 0 },
         };
     }
     if no_element(words) {
         return Encoded {
-            number: refusal::NONE,
+            judged: Ok(()),
             piece: Piece {
                 value: 0,
                 bits: elements::FLAGS,
@@ -476,7 +475,7 @@ pub fn tetra_mac_resource_compute_header_len(words: &[u64], out: &mut [u64]) -> 
             out[0] = n.0 as u64;
             0
         }
-        Err(number) => number as u64,
+        Err(reason) => reason.number() as u64,
     }
 }
 
@@ -498,6 +497,6 @@ pub fn tetra_mac_resource_len_and_fill(words: &[u64], sdu_len: usize, out: &mut 
             out[2] = n.fill.0 as u64;
             0
         }
-        Err(number) => number as u64,
+        Err(reason) => reason.number() as u64,
     }
 }

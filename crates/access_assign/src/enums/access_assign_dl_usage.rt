@@ -1,8 +1,10 @@
 // Clause 21.4.7.2, ACCESS-ASSIGN: the downlink usage marker, 6 bits.
 ghost use Rattle.std.specs.Prelude.{◌≡◌};
+ghost use Rattle.tetra_core.specs.Refusal.{refused_by};
 ghost use Rattle.access_assign.specs.Usage.{dl_marker, dl_usage_of, dl_is_traffic, dl_channel, dl_refusal};
 
 use crate::enums;
+use tetra_core::refusal::Reason;
 
 #[derive(Clone, Copy)]
 pub enum AccessAssignDlUsage {
@@ -66,15 +68,15 @@ impl AccessAssignDlUsage {
         }
     }
 
-    // Why a usage is not written, or 0.
-    pub fn usage_refusal(self) -> u8
-        ensures { result ≡ dl_refusal self }
+    // Why a usage is not written, if so.
+    pub fn usage_refusal(self) -> Result<(), Reason>
+        ensures { refused_by result ≡ dl_refusal self }
     {
         match self {
-            AccessAssignDlUsage::Unallocated => 0,
-            AccessAssignDlUsage::AssignedControl => 0,
-            AccessAssignDlUsage::CommonControl => 0,
-            AccessAssignDlUsage::CommonAndAssigned => 0,
+            AccessAssignDlUsage::Unallocated => Ok(()),
+            AccessAssignDlUsage::AssignedControl => Ok(()),
+            AccessAssignDlUsage::CommonControl => Ok(()),
+            AccessAssignDlUsage::CommonAndAssigned => Ok(()),
             AccessAssignDlUsage::Traffic(chan) => enums::traffic_refusal(chan),
         }
     }

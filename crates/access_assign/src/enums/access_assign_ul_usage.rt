@@ -1,9 +1,10 @@
 // Clause 21.4.7.2, ACCESS-ASSIGN: the uplink usage marker, 6 bits.
 ghost use Rattle.std.specs.Prelude.{◌≡◌};
+ghost use Rattle.tetra_core.specs.Refusal.{refused_by};
 ghost use Rattle.access_assign.specs.Usage.{ul_marker, ul_usage, ul_is_traffic, ul_channel, ul_refusal};
 
 use crate::enums;
-use tetra_core::refusal;
+use tetra_core::refusal::Reason;
 
 #[derive(Clone, Copy)]
 pub enum AccessAssignUlUsage {
@@ -68,15 +69,15 @@ impl AccessAssignUlUsage {
         }
     }
 
-    // Why a usage is not written, or 0.
-    pub fn usage_refusal(self) -> u8
-        ensures { result ≡ ul_refusal self }
+    // Why a usage is not written, if so.
+    pub fn usage_refusal(self) -> Result<(), Reason>
+        ensures { refused_by result ≡ ul_refusal self }
     {
         match self {
-            AccessAssignUlUsage::CommonOnly => refusal::USAGE_MARKER,
-            AccessAssignUlUsage::CommonAndAssigned => refusal::USAGE_MARKER,
-            AccessAssignUlUsage::AssignedOnly => refusal::USAGE_MARKER,
-            AccessAssignUlUsage::Unallocated => 0,
+            AccessAssignUlUsage::CommonOnly => Err(Reason::UsageMarker),
+            AccessAssignUlUsage::CommonAndAssigned => Err(Reason::UsageMarker),
+            AccessAssignUlUsage::AssignedOnly => Err(Reason::UsageMarker),
+            AccessAssignUlUsage::Unallocated => Ok(()),
             AccessAssignUlUsage::Traffic(chan) => enums::traffic_refusal(chan),
         }
     }

@@ -9,9 +9,10 @@ use Rattle.std.proofs.Math.Dec.{eqb}
 use borrow.Author.Tests.{ltb-true, eqb-true, eqb-false, lt-ltb, eq-eqb, ne_eqb, not-false}
 use Rattle.bits.specs.Bits.{digit, bits_of_nat}
 use Rattle.tetra_core.specs.BitBuffer.{moved}
-use Rattle.tetra_core.specs.Refusal.{unless, first, first-none, passed}
+use Rattle.tetra_core.specs.Refusal.{number, numbered, unless, first, first-none, passed}
 use Rattle.bits.proofs.Laws.Values.{digit_lt}
 use Rattle.tetra_core.specs.declared.bitbuffer.Cursor.{Cursor}
+use Rattle.tetra_core.specs.declared.refusal.Reason.{Reason}
 use Rattle.codec.specs.Reader.{got, parse}
 use Rattle.codec.proofs.Laws.Words.{field-alone}
 use Rattle.codec.specs.Row.{cell, size, row_bits, RowFits}
@@ -103,10 +104,10 @@ channel_allocation-len e = go (eqb e.mon_pattern 0)
     go true = (lit≤ tt, lit≤ tt)
     go false = (lit≤ tt, lit≤ tt)
 
--- a length that is refused, by r as the code has it
-pub len-refused : (r j n : ℕ) → r ≡ j → (r ≡ 0 → ⊥) → Err r ≡ len_or j n
-len-refused r zero n e h = absurd (h e)
-len-refused r (suc j) n e h = rw e
+-- a length that is refused, for the reason r as the code has it
+pub len-refused : (r : Reason) (j n : ℕ) → number r ≡ j → Err r ≡ len_or j n
+len-refused r zero n e = absurd ((numbered r).some e)
+len-refused r (suc j) n e = rw (← e, (numbered r).back)
 
 -- ---- an element that nothing refuses
 

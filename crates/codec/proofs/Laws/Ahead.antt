@@ -5,7 +5,7 @@ use Rattle.std.proofs.Math.Nat.{mod-mod}
 use Rattle.std.proofs.Math.Pow.{mod-mod-pow}
 use Rattle.bits.specs.Bits.{bits_of_nat, Leading}
 use Rattle.bits.proofs.Laws.Values.{length-bits_of_nat, bits_of_nat-add, bits_of_nat-mod, bits-zero}
-use Rattle.codec.specs.Reader.{Out, got, refused, field_at, Reader, parse}
+use Rattle.codec.specs.Reader.{refused, field_at, Reader, parse}
 use Rattle.codec.proofs.Laws.Reader.{field-short, inside}
 use Rattle.codec.specs.Words.{Starts, short_at, total}
 use Rattle.codec.proofs.Laws.Words.{short}

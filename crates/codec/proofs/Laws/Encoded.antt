@@ -1,9 +1,11 @@
 -- The laws of specs/Encoded.antt.
-use Rattle.std.specs.Prelude.{ℕ, ◌+◌, ◌-◌, ◌*◌, ◌^◌, ◌≤◌, ◌<◌, ◌≡◌, refl, List, [], ◌∷◌, ◌++◌, Bool, false, length}
+use Rattle.std.specs.Prelude.{ℕ, ◌+◌, ◌-◌, ◌*◌, ◌^◌, ◌≤◌, ◌<◌, ◌≡◌, refl, List, [], ◌∷◌, ◌++◌, Bool, false, length, Result, Ok, Err}
+use Rattle.std.specs.Result.{result_and}
 use Rattle.std.proofs.Common.{sym, ap, ◌∙◌, append_assoc, append-nil, add-zero, mod-eq_of_lt, arith, length-append}
 use Rattle.bits.specs.Bits.{digit, val, bits_of_nat}
 use Rattle.bits.proofs.Laws.Values.{digit_lt, bits-zero, length-bits_of_nat, val-append, val_lt, val-bits_of_nat, bits_of_nat-val}
-use Rattle.tetra_core.specs.Refusal.{first, first-none}
+use Rattle.tetra_core.specs.Refusal.{number, refused_by, numbered, first, first-none, first-and}
+use Rattle.tetra_core.specs.declared.refusal.Reason.{Reason}
 use Rattle.tetra_core.specs.declared.bitbuffer.Cursor.{Cursor}
 use Rattle.tetra_core.specs.declared.bitbuffer.Moved.{Moved}
 use Rattle.codec.specs.Write.{write_at, written_at}
@@ -20,15 +22,16 @@ use Rattle.codec.specs.Encoded.{pieces_bits, Sound, Encodes, EncodesOne, set_in,
 -- ---- what is encoded in one piece
 
 -- what is refused, and what is a piece
-pub refused-encodes : {j k n : ℕ} {xs : List Bool} → k ≡ j → (k ≡ 0 → ⊥) → n ≤ 63 → EncodesOne j n xs (record { number = k; piece = record { value = 0; bits = n } })
-refused-encodes {n = n} e z l = record {
+pub refused-encodes : (r : Reason) {j n : ℕ} {xs : List Bool} → number r ≡ j → n ≤ 63
+    → EncodesOne j n xs (record { judged = Err r; piece = record { value = 0; bits = n } })
+refused-encodes r {n = n} e l = record {
   number = e;
   bit_count = add-zero n;
-  sound = record { few = (l, tt); fit = λ w. absurd (z w) };
-  bits = λ w. absurd (z (e ∙ w));
+  sound = record { few = (l, tt); fit = λ w. absurd ((numbered r).some w) };
+  bits = λ w. absurd ((numbered r).some (e ∙ w));
 }
 
-pub piece_encodes : {j k n : ℕ} {xs : List Bool} {p : Piece} → k ≡ j → n ≤ 63 → Holds xs n p → EncodesOne j n xs (record { number = k; piece = p })
+pub piece_encodes : {j n : ℕ} {xs : List Bool} {p : Piece} → 0 ≡ j → n ≤ 63 → Holds xs n p → EncodesOne j n xs (record { judged = Ok tt; piece = p })
 piece_encodes {p = p} e l h = record {
   number = e;
   bit_count = add-zero p.bits ∙ h.size;
@@ -37,8 +40,8 @@ piece_encodes {p = p} e l h = record {
 }
 
 -- and back
-one_holds : {j n : ℕ} {xs : List Bool} {e : Encoded} → EncodesOne j n xs e → j ≡ 0 → Holds xs n e.piece
-one_holds {e = e} x z = record {
+one_holds : {j n : ℕ} {xs : List Bool} (e : Encoded) → EncodesOne j n xs e → j ≡ 0 → Holds xs n e.piece
+one_holds e x z = record {
   is = sym (append-nil (piece_bits e.piece)) ∙ x.bits z;
   size = sym (add-zero e.piece.bits) ∙ x.bit_count;
   small = (x.sound.fit (x.number ∙ z)).0;
@@ -111,19 +114,19 @@ module _ {at : Places} {xs : ℕ → Bool → List Bool} (s : Spaced at xs) {n :
 -- ---- a header
 
 -- of its front, its rest and its tail
-module _ {at : Places} {xs : ℕ → Bool → List Bool} {ys ts : List Bool} {i j m n r : ℕ} {a b : Encoded} {t : Tail} (s : Spaced at xs)
+module _ {at : Places} {xs : ℕ → Bool → List Bool} {ys ts : List Bool} {i j m n r : ℕ} (a b : Encoded) {t : Tail} (s : Spaced at xs)
     (x : EncodesOne i m (xs 0 false) a) (y : EncodesOne j n ys b) (w : EncodesTail j r ts t) where
-  module _ (k : ℕ) {q o : ℕ} {zs : ℕ → Bool → List Bool} (e : first (k ∷ first (i ∷ j ∷ []) ∷ []) ≡ q) (g : m + n + r ≡ o) (u : at.length ≤ m)
+  module _ (k : Result (Unit {0}) Reason) {q o : ℕ} {zs : ℕ → Bool → List Bool} (e : first (refused_by k ∷ first (i ∷ j ∷ []) ∷ []) ≡ q) (g : m + n + r ≡ o) (u : at.length ≤ m)
       (h : (l : ℕ) (f : Bool) → (xs l f ++ ys) ++ ts ≡ zs l f) where
     parts_free : q ≡ 0 → (i ≡ 0) × (j ≡ 0)
     parts_free z =
-        let p = first-none i _ (first-none (first (i ∷ j ∷ [])) _ (first-none k _ (e ∙ z)).1).0 in
+        let p = first-none i _ (first-none (first (i ∷ j ∷ [])) _ (first-none (refused_by k) _ (e ∙ z)).1).0 in
         (p.0, (first-none j _ p.1).0)
 
-    named : (whole_of k a b t at).number ≡ q
-    named = rw (x.number, y.number) e
+    named : refused_by (whole_of k a b t at).judged ≡ q
+    named = rw (first-and k (result_and a.judged b.judged), first-and a.judged b.judged, x.number, y.number) e
 
-    with-length : (l : ℕ) (f : Bool) → l < 64 → Encodes q o (zs l f) (whole_of k a b t at).number (pieces_with (whole_of k a b t at) l f)
+    with-length : (l : ℕ) (f : Bool) → l < 64 → Encodes q o (zs l f) (refused_by (whole_of k a b t at).judged) (pieces_with (whole_of k a b t at) l f)
     with-length l f c = record {
       number = named;
       bit_count = omega (arith, x.bit_count, y.bit_count, w.bit_count);
@@ -131,11 +134,11 @@ module _ {at : Places} {xs : ℕ → Bool → List Bool} {ys ts : List Bool} {i 
         few = (x.sound.few.0, (y.sound.few.0, w.sound.few));
         fit = λ z.
             let p = parts_free (sym named ∙ z) in
-            ((front-set s (one_holds x p.0) l f c).small, ((one_holds y p.1).small, w.sound.fit p.1));
+            ((front-set s (one_holds a x p.0) l f c).small, ((one_holds b y p.1).small, w.sound.fit p.1));
       };
       bits = λ z.
           let p = parts_free z in
-          rw ((front-set s (one_holds x p.0) l f c).is, (one_holds y p.1).is, w.bits p.1) (sym (append_assoc (xs l f) ys ts) ∙ h l f);
+          rw ((front-set s (one_holds a x p.0) l f c).is, (one_holds b y p.1).is, w.bits p.1) (sym (append_assoc (xs l f) ys ts) ∙ h l f);
     }
 
     pub whole-encodes : EncodesHeader q o zs (whole_of k a b t at)
@@ -166,17 +169,17 @@ module _ {j n : ℕ} {xs : ℕ → Bool → List Bool} {e : EncodedHeader} (x : 
   few : Few e
   few = (x.encodes 0 false (omega arith)).sound.few
 
-  numbered : e.number ≡ j
-  numbered = (x.encodes 0 false (omega arith)).number
+  judged-as : refused_by e.judged ≡ j
+  judged-as = (x.encodes 0 false (omega arith)).number
 
-  pub header-writable : Placed e × Sound e.number (pieces_with e l f)
-  header-writable = (x.placed, record { few = few; fit = λ z. (x.encodes l f (k (sym numbered ∙ z))).sound.fit z })
+  pub header-writable : Placed e × Sound (refused_by e.judged) (pieces_with e l f)
+  header-writable = (x.placed, record { few = few; fit = λ z. (x.encodes l f (k (sym judged-as ∙ z))).sound.fit z })
 
   pub header-written : (s : List ℕ) (c : Cursor) {r : Moved} {t : List ℕ}
-      → (r ≡ write_at s c e.number (bits_with e l f)) × (t ≡ written_at s c e.number (bits_with e l f))
+      → (r ≡ write_at s c (refused_by e.judged) (bits_with e l f)) × (t ≡ written_at s c (refused_by e.judged) (bits_with e l f))
       → (r ≡ write_at s c j (xs l f)) × (t ≡ written_at s c j (xs l f))
   unfolding bits_with
-  header-written s c y = let w = write_same s c _ _ _ _ numbered (λ z. (x.encodes l f (k z)).bits z) in
+  header-written s c y = let w = write_same s c _ _ _ _ judged-as (λ z. (x.encodes l f (k z)).bits z) in
       (y.0 ∙ w.0, y.1 ∙ w.1)
 
 -- a header that can be put, whatever it is the encoding of

@@ -7,7 +7,6 @@ use Rattle.bits.proofs.Laws.Reads.{bits_at_add}
 use Rattle.bits.proofs.Laws.Writes.{length-put_bits, bits_at_put_bits, bits_at_after}
 use Rattle.tetra_core.specs.Laws.Windows.{Good, good_test}
 use Rattle.tetra_core.specs.declared.bitbuffer.Cursor.{Cursor}
-use Rattle.tetra_core.specs.declared.refusal.Refusal.{Refusal}
 use Rattle.codec.specs.Reader.{got, Reader, done, refuse, field, here, choose, parse}
 use Rattle.codec.specs.Words.{past}
 use Rattle.codec.proofs.Laws.Words.{past_is, field-alone}

@@ -1,10 +1,10 @@
 -- The laws of specs/Write.antt.
-use Rattle.std.specs.Prelude.{ℕ, zero, suc, ◌≡◌, refl, List, [], ◌∷◌, Bool, true, false, length, leb, Err, Ok}
+use Rattle.std.specs.Prelude.{ℕ, zero, suc, ◌≡◌, refl, List, [], ◌∷◌, Bool, true, false, length, leb, Ok}
 use Rattle.std.proofs.Common.{sym, ◌∙◌, arith, leb-true, le-leb}
 use Rattle.bits.specs.Bits.{put_bits}
-use Rattle.tetra_core.specs.BitBuffer.{good_window, remaining, moved}
+use Rattle.tetra_core.specs.BitBuffer.{good_window, remaining, moved, moves, bytes_after}
 use Rattle.tetra_core.specs.Refusal.{unless, first, first-none, passed}
-use Rattle.tetra_core.specs.Laws.Windows.{good_facts, good_test, move_refused, move_done, bytes-refused, bytes-done}
+use Rattle.tetra_core.specs.Laws.Windows.{good_facts, good_test, move_done, bytes-done}
 use Rattle.tetra_core.specs.declared.bitbuffer.Cursor.{Cursor}
 use Rattle.codec.specs.Write.{refusal_at, write_at, written_at, Free}
 
@@ -22,12 +22,7 @@ pub free_test : (len : ℕ) (c : Cursor) (j n : ℕ) → Free len c j n → refu
 unfolding refusal_at first
 free_test len c j n f = simp (good_test len c f.good, f.value, le-leb n (remaining c) (omega arith))
 
--- the two returns of a call: i is the value's refusal and r the call's, n is the number of bits, as the code has them
-pub write_refused : (s : List ℕ) (c : Cursor) (xs : List Bool) {i j n r : ℕ} → length xs ≡ n → i ≡ j → r ≡ refusal_at (length s) c i n → (r ≡ 0 → ⊥)
-    → (record { cursor = c; answer = Err r } ≡ write_at s c j xs) × (s ≡ written_at s c j xs)
-unfolding write_at written_at
-write_refused s c xs l v e h = rw (l, ← v) (move_refused _ _ _ _ e h, bytes-refused _ _ _ _ e h)
-
+-- the last return of a call: i is the value's refusal and r the call's, n is the number of bits, as the code has them
 pub write_done : (s : List ℕ) (c : Cursor) (xs : List Bool) {i j n r : ℕ} {t : List ℕ} → length xs ≡ n → i ≡ j → r ≡ refusal_at (length s) c i n → r ≡ 0
     → t ≡ put_bits s c.pos xs → (record { cursor = moved c n; answer = (Ok tt) } ≡ write_at s c j xs) × (t ≡ written_at s c j xs)
 unfolding write_at written_at
@@ -42,11 +37,19 @@ refused-same len c j m n = go (good_window len c)
     go true = refl
     go false = refl
 
+-- and neither is where the cursor would move, nor what would be written
+unmoved : (k : ℕ) (c d e : Cursor) → (k ≡ 0 → ⊥) → moves k c d ≡ moves k c e
+unmoved zero c d e h = absurd (h refl)
+unmoved (suc k) c d e h = refl
+
+unwritten : (k : ℕ) (s t u : List ℕ) → (k ≡ 0 → ⊥) → bytes_after k s t ≡ bytes_after k s u
+unwritten zero s t u h = absurd (h refl)
+unwritten (suc k) s t u h = refl
+
 pub write_same : (s : List ℕ) (c : Cursor) (i j : ℕ) (xs ys : List Bool) → i ≡ j → (j ≡ 0 → xs ≡ ys)
     → (write_at s c i xs ≡ write_at s c j ys) × (written_at s c i xs ≡ written_at s c j ys)
+unfolding write_at written_at
 write_same s c i zero xs ys e h = rw (e, h refl) (refl, refl)
 write_same s c i (suc j) xs ys e h =
-    let some : refusal_at (length s) c (suc j) (length xs) ≡ 0 → ⊥ = λ z. omega (arith, (free _ _ _ _ z).value) in
-    let a = write_refused s c xs refl refl refl some in
-    let b = write_refused s c ys refl refl (refused-same (length s) c j (length xs) (length ys)) some in
-    rw e (sym a.0 ∙ b.0, sym a.1 ∙ b.1)
+    let some : refusal_at (length s) c (suc j) (length ys) ≡ 0 → ⊥ = λ z. omega (arith, (free _ _ _ _ z).value) in
+    rw (e, refused-same (length s) c j (length xs) (length ys)) (unmoved _ _ _ _ some, unwritten _ _ _ _ some)

@@ -7,7 +7,7 @@ use Rattle.bits.proofs.Laws.Bytes.{bits_of_inj}
 use Rattle.bits.proofs.Laws.Reads.{at-is, length_bits_at}
 use Rattle.bits.proofs.Laws.Values.{val_lt, bits_of_nat-val}
 use Rattle.bits.proofs.Laws.Writes.{bits_of_put_bits, bytes-put_bits}
-use Rattle.tetra_core.specs.BitBuffer.{good_window, remaining, moved}
+use Rattle.tetra_core.specs.BitBuffer.{good_window, remaining}
 use Rattle.tetra_core.specs.Laws.Windows.{good_facts}
 use Rattle.tetra_core.specs.declared.bitbuffer.Cursor.{Cursor}
 use Rattle.tetra_core.specs.declared.bitbuffer.Read.{Read}

@@ -2,6 +2,7 @@
 use Rattle.std.specs.Prelude.{◌≡◌, refl, false, List, ℕ, zero, suc, ◌≤◌, ◌<◌, length}
 use Rattle.std.proofs.Math.Path.{ap}
 use Rattle.std.proofs.Common.{◌∙◌, arith}
+use Rattle.tetra_core.specs.Refusal.{refused_by}
 use Rattle.codec.specs.Encoded.{size_of, bits_with, EncodesHeader}
 use Rattle.codec.specs.declared.encoded.EncodedHeader.{EncodedHeader}
 use Rattle.block_rules.specs.Numbers.{most_bits}
@@ -24,7 +25,7 @@ module _ {A : Type 0} (W : HeaderWriter A) (a : A) {e : EncodedHeader} (x : Enco
   counted : size_of e ≡ W.header_len a
   counted = omega (arith, (x.encodes 0 false (omega arith)).bit_count)
 
-  numbered : e.number ≡ W.check a
+  numbered : refused_by e.judged ≡ W.check a
   numbered = (x.encodes 0 false (omega arith)).number
 
   left_as : encoded_to n w e (W.ending a) content k ≡ add_to W n w (add_of a content k)

@@ -1,11 +1,10 @@
 -- What is read, written again, gives the bits that were read, wherever nothing was cleared.
-use Rattle.std.specs.Prelude.{ℕ, zero, suc, ◌-◌, ◌^◌, ◌<◌, ◌≡◌, refl, List, [], ◌∷◌, ◌++◌, Bool, true, false, not, take, eqb, Err, Ok}
-use Rattle.std.proofs.Common.{sym, ap, ◌∙◌, append-nil, true≢false, arith, eqb-true, lt-ltb}
+use Rattle.std.specs.Prelude.{ℕ, zero, suc, ◌-◌, ◌^◌, ◌<◌, ◌≡◌, refl, List, [], ◌∷◌, ◌++◌, Bool, true, false, not, take, eqb, Ok}
+use Rattle.std.proofs.Common.{sym, ap, ◌∙◌, append-nil, true≢false, eqb-true, lt-ltb}
 use Rattle.std.proofs.lemmas.Bool.{not-false}
 use Rattle.tetra_core.specs.Refusal.{unless, first}
 use Rattle.tetra_core.specs.declared.address.DownlinkAddress.{DownlinkAddress}
 use Rattle.tetra_core.specs.declared.bitbuffer.Cursor.{Cursor}
-use Rattle.tetra_core.specs.declared.bitbuffer.Read.{Read}
 use Rattle.codec.specs.Reader.{got, parse}
 use Rattle.codec.specs.Header.{within}
 use Rattle.codec.specs.Row.{row_bits}

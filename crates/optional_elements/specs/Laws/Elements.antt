@@ -1,6 +1,6 @@
 -- The elements of a MAC-RESOURCE: what is known where nothing refuses them, how long they are, what was written is read back, and what was
 -- read is written again.
-use Rattle.std.specs.Prelude.{ℕ, ◌+◌, ◌≤◌, ◌≡◌, refl, Bool, true, false, ◌&&◌, eqb, leb, length, None, Option, Some}
+use Rattle.std.specs.Prelude.{ℕ, ◌+◌, ◌≤◌, ◌≡◌, refl, Bool, true, false, ◌&&◌, eqb, leb, length, None, Ok, Option, Some}
 use Rattle.std.proofs.Common.{sym, true≢false, arith, lit<, length-append, leb-true, eqb-true}
 use mathlib.Core.List.{List, ◌++◌, append_assoc, append-nil}
 use Rattle.std.proofs.Math.Nat.{add_assoc}
@@ -58,7 +58,7 @@ module _ (e : Elements) where
 -- ---- no element
 
 -- three flags that are not set
-none-encodes : EncodesOne (elements_refusal no_elements) flags_len (elements_bits no_elements) (record { number = 0; piece = record { value = 0; bits = flags_len } })
+none-encodes : EncodesOne (elements_refusal no_elements) flags_len (elements_bits no_elements) (record { judged = Ok tt; piece = record { value = 0; bits = flags_len } })
 unfolding elements_refusal grant_and_allocation_refusal elements_bits grant_and_allocation_bits row_bits bits_of_nat first
 none-encodes = piece_encodes refl (omega arith) (record { is = refl; size = refl; small = lit< tt })
 
@@ -71,7 +71,7 @@ bare_is None (Some g) a z = absurd (let y : ◌≡◌ {A = ℕ} 0 1 = cc in omeg
 bare_is (Some v) g a z = absurd (let y : ◌≡◌ {A = ℕ} 0 1 = cc in omega arith)
 
 pub bare_encodes : (e : Elements) → is_bare e ≡ true
-    → EncodesOne (elements_refusal e) (elements_len e) (elements_bits e) (record { number = 0; piece = record { value = 0; bits = flags_len } })
+    → EncodesOne (elements_refusal e) (elements_len e) (elements_bits e) (record { judged = Ok tt; piece = record { value = 0; bits = flags_len } })
 bare_encodes e z =
     rw (bare_is e.power_control_element e.grant_and_allocation.slot_granting_element e.grant_and_allocation.chan_alloc_element z) none-encodes
 

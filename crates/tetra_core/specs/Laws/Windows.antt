@@ -1,14 +1,17 @@
 -- Windows: what a good one gives, what is known where a call is not refused, and the forms of an answer.
-use Rattle.std.specs.Prelude.{ℕ, zero, suc, ◌+◌, ◌-◌, ◌*◌, ◌^◌, ◌≤◌, ◌<◌, ◌≡◌, refl, List, [], ◌∷◌, Bool, true, false, ◌&&◌, length, leb, ltb, Err, None, Ok, Option, Some}
+use Rattle.std.specs.Prelude.{ℕ, zero, suc, ◌+◌, ◌-◌, ◌*◌, ◌^◌, ◌≤◌, ◌<◌, ◌≡◌, refl, List, [], ◌∷◌, Bool, true, false, ◌&&◌, length, leb, ltb, Err, None, Ok, Option, Result, Some}
+use Rattle.std.specs.Result.{is_err}
 use Rattle.std.proofs.Common.{sym, arith, leb-true, ltb-true, le-leb}
 use Rattle.std.proofs.lemmas.Bool.{lt-leb}
 use Rattle.bits.specs.Bits.{get_bits, bits_of_nat}
-use Rattle.tetra_core.specs.Refusal.{unless, first, first-none, passed}
+use Rattle.tetra_core.specs.Refusal.{number, refused_by, numbered, unless, first, first-none, passed}
 use Rattle.tetra_core.specs.Quantity.{octets_of}
 use Rattle.tetra_core.specs.BitBuffer.{room_refusal, good_window, at, moved, after, bytes_after, reads, read_refused, moves, changed, peek_at, peek_place, seek_place, read_refusal, read_bits, write_refusal, written, outcome, copy_refusal, remaining, into_slice_refusal, window_len, bitvec_refusal, are_bits, from_bitarr_refusal}
 use Rattle.bits.proofs.Laws.Writes.{length-put_bits, get_bits-put_bits}
 use Rattle.tetra_core.specs.declared.bitbuffer.Cursor.{Cursor}
 use Rattle.tetra_core.specs.declared.bitbuffer.Copied.{Copied}
+use Rattle.tetra_core.specs.declared.refusal.Reason.{Reason}
+use Rattle.tetra_core.specs.declared.refusal.Reason.TheVariants.{ReadPastEnd, BadWindow}
 
 -- ---- a good window
 
@@ -175,30 +178,29 @@ gatherable len c buf e =
       room = leb-true _ _ (passed _ 1 y.0);
     }
 
--- ---- the forms of an answer: refused by r, or done
+-- ---- the forms of an answer: refused for the reason r, or done
 
-pub read-refused : (r j v : ℕ) (c d : Cursor) → r ≡ j → (r ≡ 0 → ⊥)
-    → record { cursor = c; answer = Err (record { number = r; offset = 0 }) } ≡ reads j v c d
-read-refused r zero v c d e h = absurd (h e)
-read-refused r (suc j) v c d e h = rw e
+pub read-refused : (r : Reason) (j v : ℕ) (c d : Cursor) → number r ≡ j → read_refused c r ≡ reads j v c d
+read-refused r zero v c d e = absurd ((numbered r).some e)
+read-refused r (suc j) v c d e = rw (← e, (numbered r).back)
 
 pub read_done : (j v : ℕ) (c d : Cursor) → j ≡ 0 → record { cursor = d; answer = Ok v } ≡ reads j v c d
 read_done zero v c d e = refl
 read_done (suc j) v c d e = absurd (omega arith)
 
-pub move_refused : (r j : ℕ) (c d : Cursor) → r ≡ j → (r ≡ 0 → ⊥) → record { cursor = c; answer = Err r } ≡ moves j c d
-move_refused r zero c d e h = absurd (h e)
-move_refused r (suc j) c d e h = rw e
+pub move_refused : (r : Reason) (j : ℕ) (c d : Cursor) → number r ≡ j → record { cursor = c; answer = Err r } ≡ moves j c d
+move_refused r zero c d e = absurd ((numbered r).some e)
+move_refused r (suc j) c d e = rw (← e, (numbered r).back)
 
 pub move_done : (j : ℕ) (c d : Cursor) → j ≡ 0 → record { cursor = d; answer = (Ok tt) } ≡ moves j c d
 move_done zero c d e = refl
 move_done (suc j) c d e = absurd (omega arith)
 
-pub copy_refused : (r j : ℕ) (d d' c c' : Cursor) → r ≡ j → (r ≡ 0 → ⊥)
+pub copy_refused : (r : Reason) (j : ℕ) (d d' c c' : Cursor) → number r ≡ j
     → ◌≡◌ {A = Copied} (record { cursor = d; source = c; answer = Err r })
     (record { cursor = after j d d'; source = after j c c'; answer = outcome j })
-copy_refused r zero d d' c c' e h = absurd (h e)
-copy_refused r (suc j) d d' c c' e h = rw e
+copy_refused r zero d d' c c' e = absurd ((numbered r).some e)
+copy_refused r (suc j) d d' c c' e = rw (← e, (numbered r).back)
 
 pub copy_done : (j : ℕ) (d d' c c' : Cursor) → j ≡ 0
     → ◌≡◌ {A = Copied} (record { cursor = d'; source = c'; answer = (Ok tt) })
@@ -206,9 +208,14 @@ pub copy_done : (j : ℕ) (d d' c c' : Cursor) → j ≡ 0
 copy_done zero d d' c c' e = refl
 copy_done (suc j) d d' c c' e = absurd (omega arith)
 
-pub bytes-refused : (r j : ℕ) (s t : List ℕ) → r ≡ j → (r ≡ 0 → ⊥) → s ≡ bytes_after j s t
-bytes-refused r zero s t e h = absurd (h e)
-bytes-refused r (suc j) s t e h = refl
+pub bytes-refused : (r : Reason) (j : ℕ) (s t : List ℕ) → number r ≡ j → s ≡ bytes_after j s t
+bytes-refused r zero s t e = absurd ((numbered r).some e)
+bytes-refused r (suc j) s t e = refl
+
+-- what is an error leaves the bytes
+pub bytes-kept : (b : Result (Unit {0}) Reason) (s t : List ℕ) → is_err b ≡ true → s ≡ bytes_after (refused_by b) s t
+bytes-kept (Ok u) s t e = absurd (let n : ◌≡◌ {A = Bool} false true = e in cc)
+bytes-kept (Err r) s t e = bytes-refused r (number r) s t refl
 
 pub bytes-done : (j : ℕ) (s t : List ℕ) → j ≡ 0 → t ≡ bytes_after j s t
 bytes-done zero s t e = refl
@@ -229,17 +236,17 @@ seek_bad len c (Some p) h = sym (changed-bad len c (at c p) (λ g d. h g))
 seek_bad len c None h = refl
 
 -- a peek through a window that is not good, at any place
-pub peek_bad : (s : List ℕ) (c : Cursor) (n : ℕ) (q : Option ℕ) → good_window (length s) c ≡ false → read_refused c 13 ≡ peek_place s c q n
+pub peek_bad : (s : List ℕ) (c : Cursor) (n : ℕ) (q : Option ℕ) → good_window (length s) c ≡ false → read_refused c BadWindow ≡ peek_place s c q n
 unfolding peek_at read_refusal first
 peek_bad s c n (Some p) e = rw e
 peek_bad s c n None e = rw e
 
 -- a peek past the window's end
-pub peek_past : (s : List ℕ) (c : Cursor) (p n : ℕ) → Good (length s) c → c.end < p → read_refused c 1 ≡ peek_at s c p n
+pub peek_past : (s : List ℕ) (c : Cursor) (p n : ℕ) → Good (length s) c → c.end < p → read_refused c ReadPastEnd ≡ peek_at s c p n
 unfolding peek_at read_refusal first
 peek_past s c p n g h = past (leb n 64)
   where
-    past : (b : Bool) → read_refused c 1 ≡ reads (first (unless (good_window (length s) c) 13 ∷ unless b 1 ∷ unless (leb c.start p) 1 ∷ unless (leb (p + n) c.end) 1 ∷ [])) (get_bits s p n) c c
+    past : (b : Bool) → read_refused c ReadPastEnd ≡ reads (first (unless (good_window (length s) c) 13 ∷ unless b 1 ∷ unless (leb c.start p) 1 ∷ unless (leb (p + n) c.end) 1 ∷ [])) (get_bits s p n) c c
     past true = rw (good_test (length s) c g, le-leb c.start p (omega (arith, g)), lt-leb (p + n) c.end (omega arith))
     past false = rw (good_test (length s) c g)
 

@@ -1,12 +1,13 @@
 -- The uplink address: an address that nothing refuses fits its bits, what was written is read back, and what was read is written again.
-use Rattle.std.specs.Prelude.{ℕ, zero, suc, ◌/◌, ◌^◌, ◌≤◌, ◌<◌, ◌≡◌, refl, Bool, true, false, cond, eqb}
-use Rattle.std.proofs.Common.{arith, one-mul, le-div_iff_mul-le, div-lt_iff_lt-mul, lit<, lit≤, pow_pos, ltb-true}
+use Rattle.std.specs.Prelude.{ℕ, zero, suc, ◌/◌, ◌%◌, ◌^◌, ◌≤◌, ◌<◌, ◌≡◌, refl, [], ◌∷◌, Bool, true, false, cond, get_or, eqb}
+use Rattle.std.proofs.Common.{arith, one-mul, le-div_iff_mul-le, div-lt_iff_lt-mul, mod-lt, lit<, lit≤, pow_pos, ltb-true}
 use Rattle.tetra_core.specs.Address.{uplink_address_type}
 use Rattle.tetra_core.specs.Refusal.{passed}
 use Rattle.tetra_core.specs.declared.address.UplinkAddress.{UplinkAddress}
 use Rattle.tetra_core.specs.declared.address.UplinkAddress.TheVariants.{Ssi, EventLabel, Ussi, Smi}
 use Rattle.codec.proofs.Laws.AllBelow.{numbers}
-use Rattle.tetra_fields.specs.UplinkAddress.{uplink_width, uplink_of, uplink_number, uplink_address_refusal, encryption_refusal, normal_uplink}
+use Rattle.tetra_fields.specs.declared.enums.uplink_addr_type.UplinkAddrType.TheVariants as Type'
+use Rattle.tetra_fields.specs.UplinkAddress.{uplink_type_number, uplink_type_of, uplink_width, uplink_of, uplink_number, uplink_address_refusal, encryption_refusal, normal_uplink}
 
 -- ---- widths
 
@@ -53,6 +54,11 @@ address-back (Ussi v) = refl
 address-back (Smi v) = refl
 
 -- ---- what was read has the type and the number that it was read of
+
+pub uplink_type-again : (v : ℕ) → uplink_type_number (uplink_type_of v) ≡ v % 4
+unfolding uplink_type_of
+uplink_type-again v =
+    numbers uplink_type_number (λ k. get_or (Type'.Ssi ∷ Type'.EventLabel ∷ Type'.Ussi ∷ []) k Type'.Smi) 4 refl (v % 4) (mod-lt v (lit< tt))
 
 pub type-again : (kind v : ℕ) → kind < 4 → uplink_address_type (uplink_of kind v) ≡ kind
 unfolding uplink_of

@@ -2,7 +2,6 @@
 ghost use Rattle.std.specs.Prelude.{◌≡◌, ◌<◌};
 ghost use Rattle.tetra_fields.specs.BasicSlotgrant.{cap_alloc_number, cap_alloc_of, cap_alloc_case, granted_slots, cap_alloc_for};
 
-use crate::enums::reservation_requirement;
 use crate::enums::reservation_requirement::{ReqSlotcount, ReservationRequirement};
 use codec::cases;
 use codec::cases::NoCase;
@@ -84,6 +83,33 @@ impl BasicSlotgrantCapAlloc {
             BasicSlotgrantCapAlloc::SecondSubslotGranted => 15,
         }
     }
+
+    // The least case that grants req slots, 0 for the first subslot and 99 for the second. It has the number of the reservation requirement
+    // that asks for as many.
+    pub fn from_req_slotcount(req: usize) -> Option<BasicSlotgrantCapAlloc>
+        ensures { result ≡ cap_alloc_for req }
+    {
+        if req == 99 {
+            return Some(BasicSlotgrantCapAlloc::SecondSubslotGranted);
+        }
+        if 68 < req {
+            return None;
+        }
+        let asked = ReservationRequirement::from_req_slotcount(req);
+        Some(BasicSlotgrantCapAlloc::from_raw(asked.into_raw()))
+    }
+
+    // What a case grants.
+    pub fn to_req_slotcount(self) -> GrantedSlots
+        ensures { result ≡ granted_slots self }
+    {
+        let asked = ReservationRequirement::from_raw(self.into_raw());
+        match asked.to_req_slotcount() {
+            ReqSlotcount::Subslot => GrantedSlots::FirstSubslot,
+            ReqSlotcount::Slots(n) => GrantedSlots::Slots(n),
+            ReqSlotcount::Over68 => GrantedSlots::SecondSubslot,
+        }
+    }
 }
 
 // The case of a number; above 15 there is none.
@@ -102,31 +128,5 @@ impl From<BasicSlotgrantCapAlloc> for u64 {
 
     fn from(a: BasicSlotgrantCapAlloc) -> u64 {
         a.into_raw()
-    }
-}
-
-// The least case that grants req slots, 0 for the first subslot and 99 for the second. It has the number of the reservation requirement
-// that asks for as many.
-pub fn from_req_slotcount(req: usize) -> Option<BasicSlotgrantCapAlloc>
-    ensures { result ≡ cap_alloc_for req }
-{
-    if req == 99 {
-        return Some(BasicSlotgrantCapAlloc::SecondSubslotGranted);
-    }
-    if 68 < req {
-        return None;
-    }
-    let asked = reservation_requirement::from_req_slotcount(req);
-    Some(BasicSlotgrantCapAlloc::from_raw(asked.into_raw()))
-}
-
-pub fn to_req_slotcount(a: BasicSlotgrantCapAlloc) -> GrantedSlots
-    ensures { result ≡ granted_slots a }
-{
-    let asked = ReservationRequirement::from_raw(a.into_raw());
-    match reservation_requirement::to_req_slotcount(asked) {
-        ReqSlotcount::Subslot => GrantedSlots::FirstSubslot,
-        ReqSlotcount::Slots(n) => GrantedSlots::Slots(n),
-        ReqSlotcount::Over68 => GrantedSlots::SecondSubslot,
     }
 }

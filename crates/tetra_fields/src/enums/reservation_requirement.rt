@@ -82,6 +82,55 @@ impl ReservationRequirement {
             ReservationRequirement::ReqOver68 => 15,
         }
     }
+
+    // The least case that is enough for req slots, 0 for one subslot.
+    #[tactic(auto, unfolding(crate::specs::ReservationRequirement::reservation_for))]
+    pub fn from_req_slotcount(req: usize) -> ReservationRequirement
+        ensures { result ≡ reservation_for req }
+    {
+        match req {
+            0 => ReservationRequirement::Req1Subslot,
+            1 => ReservationRequirement::Req1Slot,
+            2 => ReservationRequirement::Req2Slots,
+            3 => ReservationRequirement::Req3Slots,
+            4 => ReservationRequirement::Req4Slots,
+            5 => ReservationRequirement::Req5Slots,
+            6 => ReservationRequirement::Req6Slots,
+            7..=8 => ReservationRequirement::Req8Slots,
+            9..=10 => ReservationRequirement::Req10Slots,
+            11..=13 => ReservationRequirement::Req13Slots,
+            14..=17 => ReservationRequirement::Req17Slots,
+            18..=24 => ReservationRequirement::Req24Slots,
+            25..=34 => ReservationRequirement::Req34Slots,
+            35..=51 => ReservationRequirement::Req51Slots,
+            52..=68 => ReservationRequirement::Req68Slots,
+            _ => ReservationRequirement::ReqOver68,
+        }
+    }
+
+    // What a case asks for.
+    pub fn to_req_slotcount(self) -> ReqSlotcount
+        ensures { result ≡ slotcount self }
+    {
+        match self {
+            ReservationRequirement::Req1Subslot => ReqSlotcount::Subslot,
+            ReservationRequirement::Req1Slot => ReqSlotcount::Slots(1),
+            ReservationRequirement::Req2Slots => ReqSlotcount::Slots(2),
+            ReservationRequirement::Req3Slots => ReqSlotcount::Slots(3),
+            ReservationRequirement::Req4Slots => ReqSlotcount::Slots(4),
+            ReservationRequirement::Req5Slots => ReqSlotcount::Slots(5),
+            ReservationRequirement::Req6Slots => ReqSlotcount::Slots(6),
+            ReservationRequirement::Req8Slots => ReqSlotcount::Slots(8),
+            ReservationRequirement::Req10Slots => ReqSlotcount::Slots(10),
+            ReservationRequirement::Req13Slots => ReqSlotcount::Slots(13),
+            ReservationRequirement::Req17Slots => ReqSlotcount::Slots(17),
+            ReservationRequirement::Req24Slots => ReqSlotcount::Slots(24),
+            ReservationRequirement::Req34Slots => ReqSlotcount::Slots(34),
+            ReservationRequirement::Req51Slots => ReqSlotcount::Slots(51),
+            ReservationRequirement::Req68Slots => ReqSlotcount::Slots(68),
+            ReservationRequirement::ReqOver68 => ReqSlotcount::Over68,
+        }
+    }
 }
 
 // The case of a number; above 15 there is none.
@@ -100,53 +149,5 @@ impl From<ReservationRequirement> for u64 {
 
     fn from(a: ReservationRequirement) -> u64 {
         a.into_raw()
-    }
-}
-
-// The least case that is enough for req slots, 0 for one subslot.
-#[tactic(auto, unfolding(crate::specs::ReservationRequirement::reservation_for))]
-pub fn from_req_slotcount(req: usize) -> ReservationRequirement
-    ensures { result ≡ reservation_for req }
-{
-    match req {
-        0 => ReservationRequirement::Req1Subslot,
-        1 => ReservationRequirement::Req1Slot,
-        2 => ReservationRequirement::Req2Slots,
-        3 => ReservationRequirement::Req3Slots,
-        4 => ReservationRequirement::Req4Slots,
-        5 => ReservationRequirement::Req5Slots,
-        6 => ReservationRequirement::Req6Slots,
-        7..=8 => ReservationRequirement::Req8Slots,
-        9..=10 => ReservationRequirement::Req10Slots,
-        11..=13 => ReservationRequirement::Req13Slots,
-        14..=17 => ReservationRequirement::Req17Slots,
-        18..=24 => ReservationRequirement::Req24Slots,
-        25..=34 => ReservationRequirement::Req34Slots,
-        35..=51 => ReservationRequirement::Req51Slots,
-        52..=68 => ReservationRequirement::Req68Slots,
-        _ => ReservationRequirement::ReqOver68,
-    }
-}
-
-pub fn to_req_slotcount(a: ReservationRequirement) -> ReqSlotcount
-    ensures { result ≡ slotcount a }
-{
-    match a {
-        ReservationRequirement::Req1Subslot => ReqSlotcount::Subslot,
-        ReservationRequirement::Req1Slot => ReqSlotcount::Slots(1),
-        ReservationRequirement::Req2Slots => ReqSlotcount::Slots(2),
-        ReservationRequirement::Req3Slots => ReqSlotcount::Slots(3),
-        ReservationRequirement::Req4Slots => ReqSlotcount::Slots(4),
-        ReservationRequirement::Req5Slots => ReqSlotcount::Slots(5),
-        ReservationRequirement::Req6Slots => ReqSlotcount::Slots(6),
-        ReservationRequirement::Req8Slots => ReqSlotcount::Slots(8),
-        ReservationRequirement::Req10Slots => ReqSlotcount::Slots(10),
-        ReservationRequirement::Req13Slots => ReqSlotcount::Slots(13),
-        ReservationRequirement::Req17Slots => ReqSlotcount::Slots(17),
-        ReservationRequirement::Req24Slots => ReqSlotcount::Slots(24),
-        ReservationRequirement::Req34Slots => ReqSlotcount::Slots(34),
-        ReservationRequirement::Req51Slots => ReqSlotcount::Slots(51),
-        ReservationRequirement::Req68Slots => ReqSlotcount::Slots(68),
-        ReservationRequirement::ReqOver68 => ReqSlotcount::Over68,
     }
 }

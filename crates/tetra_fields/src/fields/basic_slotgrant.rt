@@ -1,19 +1,17 @@
 // Clause 21.5.6, basic slot granting: 8 bits, capacity allocation 4 and granting delay 4.
 ghost use Rattle.std.specs.Prelude.{◌≡◌};
+ghost use Rattle.tetra_core.specs.Refusal.{refused_by};
 ghost use Rattle.codec.specs.Ahead.{Ready, ReadsNext};
 ghost use Rattle.codec.specs.Row.{row_bits, RowIs};
-ghost use Rattle.codec.specs.Encoded.{EncodesOne};
 ghost use Rattle.tetra_fields.specs.BasicSlotgrant.{slotgrant_size, read_slotgrant, slotgrant_at, slotgrant_row, slotgrant_refusal, slotgrant_write, slotgrant_written};
 
 use crate::enums::basic_slotgrant_cap_alloc::BasicSlotgrantCapAlloc;
 use crate::enums::basic_slotgrant_granting_delay::BasicSlotgrantGrantingDelay;
-use codec::encoded::Encoded;
+use codec::encoded::Encode;
 use codec::header::Header;
-use codec::piece::Piece;
 use codec::{Ahead, encoded, header};
 use tetra_core::bitbuffer::{Cursor, Moved, Read};
-use tetra_core::refusal;
-use tetra_core::refusal::Refusal;
+use tetra_core::refusal::{Reason, Refusal};
 
 // The bits of a slot grant.
 const SIZE: usize = 8;
@@ -59,24 +57,24 @@ pub fn from_bitbuf(s: &[u8], c: Cursor) -> Read<BasicSlotgrant>
     header::from_bitbuf(s, c)
 }
 
-// Why a slot grant is not written, or 0.
-pub fn slotgrant_refusal(g: BasicSlotgrant) -> u8
-    ensures { result ≡ slotgrant_refusal g }
+// Why a slot grant is not written, if so.
+pub fn slotgrant_refusal(g: BasicSlotgrant) -> Result<(), Reason>
+    ensures { refused_by result ≡ slotgrant_refusal g }
 {
     let delay = g.granting_delay;
     match delay {
-        BasicSlotgrantGrantingDelay::CapAllocAtNextOpportunity => 0,
+        BasicSlotgrantGrantingDelay::CapAllocAtNextOpportunity => Ok(()),
         BasicSlotgrantGrantingDelay::DelayNOpportunities(n) => {
             if n < 1 {
-                return refusal::DELAY_COUNT;
+                return Err(Reason::DelayCount);
             }
             if 13 < n {
-                return refusal::DELAY_COUNT;
+                return Err(Reason::DelayCount);
             }
-            0
+            Ok(())
         }
-        BasicSlotgrantGrantingDelay::AllocStartsAtOpportunityInFr18 => 0,
-        BasicSlotgrantGrantingDelay::WaitForAnotherSlotgrantMessage => 0,
+        BasicSlotgrantGrantingDelay::AllocStartsAtOpportunityInFr18 => Ok(()),
+        BasicSlotgrantGrantingDelay::WaitForAnotherSlotgrantMessage => Ok(()),
     }
 }
 
@@ -90,20 +88,23 @@ pub fn slotgrant_word(g: BasicSlotgrant) -> u64
     capacity.into_raw() * CAPACITY + delay.into_raw()
 }
 
-// A slot grant on its way to being written.
-fn slotgrant_encoded(g: BasicSlotgrant) -> Encoded
-    ensures { EncodesOne (slotgrant_refusal g) slotgrant_size (row_bits (slotgrant_row g)) result }
-{
-    let number = slotgrant_refusal(g);
-    if number != 0 {
-        return encoded::refused(number, SIZE);
+impl Encode for BasicSlotgrant {
+    ghost refused = { slotgrant_refusal };
+
+    ghost size = { λ _. slotgrant_size };
+
+    ghost bits = { λ g. row_bits (slotgrant_row g) };
+
+    fn refusal(self) -> Result<(), Reason> {
+        slotgrant_refusal(self)
     }
-    Encoded {
-        number,
-        piece: Piece {
-            value: slotgrant_word(g),
-            bits: SIZE,
-        },
+
+    fn len(self) -> usize {
+        SIZE
+    }
+
+    fn word(self) -> u64 {
+        slotgrant_word(self)
     }
 }
 
@@ -111,5 +112,5 @@ fn slotgrant_encoded(g: BasicSlotgrant) -> Encoded
 pub fn to_bitbuf(s: &mut [u8], c: Cursor, g: BasicSlotgrant) -> Moved
     ensures { (result ≡ slotgrant_write s.old c g) × (s.new ≡ slotgrant_written s.old c g) }
 {
-    encoded::write(s, c, slotgrant_encoded(g))
+    encoded::to_bitbuf(s, c, g)
 }

@@ -1,12 +1,13 @@
 // The address of a MAC-ACCESS or MAC-DATA, clauses 21.4.2.1 and 21.4.2.3: SSI, USSI and SMI have 24 bits, an event label 10.
 ghost use Rattle.std.specs.Prelude.{◌≡◌, ◌^◌, ◌≤◌, ◌<◌};
+ghost use Rattle.tetra_core.specs.Refusal.{refused_by};
 ghost use Rattle.codec.specs.Ahead.{Ready, ReadsNext};
-ghost use Rattle.tetra_fields.specs.UplinkAddress.{uplink_most, uplink_width, uplink_of, uplink_number, read_uplink_address, uplink_address_refusal, encryption_refusal};
+ghost use Rattle.tetra_fields.specs.UplinkAddress.{uplink_most, uplink_width, uplink_of, uplink_number, uplink_type_number, read_uplink_address, uplink_address_refusal, encryption_refusal};
 
+use crate::enums::uplink_addr_type::UplinkAddrType;
 use codec::Ahead;
 use tetra_core::address::{SsiType, UplinkAddress};
-use tetra_core::refusal::Refusal;
-use tetra_core::{address, refusal};
+use tetra_core::refusal::{Reason, Refusal};
 
 // The bits of an event label.
 const LABEL_BITS: usize = 10;
@@ -14,44 +15,47 @@ const LABEL_BITS: usize = 10;
 // The bits of an SSI, USSI or SMI.
 const NUMBER_BITS: usize = 24;
 
-// What stands before a label is worth this much in the word of both.
-pub(crate) const BEFORE_LABEL: u64 = 1 << 10;
-
-// And before an SSI, USSI or SMI.
-pub(crate) const BEFORE_NUMBER: u64 = 1 << 24;
-
 // The bits of an address of this type.
-pub fn uplink_width(kind: u64) -> usize
-    ensures { (result ≡ uplink_width kind) × (0 < result) × (result ≤ uplink_most) }
+#[tactic(auto, unfolding(crate::specs::UplinkAddress::uplink_width))]
+pub fn uplink_width(t: UplinkAddrType) -> usize
+    ensures { (result ≡ uplink_width (uplink_type_number t)) × (0 < result) × (result ≤ uplink_most) }
 {
-    if kind == 1 { LABEL_BITS } else { NUMBER_BITS }
+    match t {
+        UplinkAddrType::Ssi => NUMBER_BITS,
+        UplinkAddrType::EventLabel => LABEL_BITS,
+        UplinkAddrType::Ussi => NUMBER_BITS,
+        UplinkAddrType::Smi => NUMBER_BITS,
+    }
 }
 
 // The address of this type with the number v.
-#[tactic(auto, unfolding(crate::specs::UplinkAddress::uplink_of))]
-fn uplink_of(kind: u64, v: u64) -> UplinkAddress
-    requires { v < 2 ^ uplink_width kind }
-    ensures { result ≡ uplink_of kind v }
+#[tactic(auto, unfolding(crate::specs::UplinkAddress::uplink_of, crate::specs::UplinkAddress::uplink_width))]
+fn uplink_of(t: UplinkAddrType, v: u64) -> UplinkAddress
+    requires { v < 2 ^ uplink_width (uplink_type_number t) }
+    ensures { result ≡ uplink_of (uplink_type_number t) v }
 {
-    match kind {
-        0 => UplinkAddress::Ssi(SsiType::Issi, v as u32),
-        1 => UplinkAddress::EventLabel(v as u16),
-        2 => UplinkAddress::Ussi(v as u32),
-        _ => UplinkAddress::Smi(v as u32),
+    match t {
+        UplinkAddrType::Ssi => UplinkAddress::Ssi(SsiType::Issi, v as u32),
+        UplinkAddrType::EventLabel => UplinkAddress::EventLabel(v as u16),
+        UplinkAddrType::Ussi => UplinkAddress::Ussi(v as u32),
+        UplinkAddrType::Smi => UplinkAddress::Smi(v as u32),
     }
 }
 
 // The address of this type that is ahead, and what is ahead after it.
-pub(crate) fn read_uplink_address(a: Ahead, kind: u64) -> Result<(Ahead, UplinkAddress), Refusal>
+pub(crate) fn read_uplink_address(
+    a: Ahead,
+    t: UplinkAddrType,
+) -> Result<(Ahead, UplinkAddress), Refusal>
     requires { Ready a uplink_most }
-    ensures { ReadsNext (read_uplink_address kind) a uplink_most result }
+    ensures { ReadsNext (read_uplink_address (uplink_type_number t)) a uplink_most result }
 {
-    let n = uplink_width(kind);
+    let n = uplink_width(t);
     if a.left < n {
         return Err(codec::field_past_end(a.at));
     }
     let v = codec::next_bits(a, n);
-    Ok((codec::advance(a, n), uplink_of(kind, v)))
+    Ok((codec::advance(a, n), uplink_of(t, v)))
 }
 
 // The number of an address.
@@ -66,29 +70,29 @@ pub fn uplink_number(a: UplinkAddress) -> u64
     }
 }
 
-// Why an address is not written, or 0.
-pub fn uplink_address_refusal(a: UplinkAddress) -> u8
-    ensures { result ≡ uplink_address_refusal a }
+// Why an address is not written, if so.
+pub fn uplink_address_refusal(a: UplinkAddress) -> Result<(), Reason>
+    ensures { refused_by result ≡ uplink_address_refusal a }
 {
     let v = uplink_number(a);
-    let n = uplink_width(address::uplink_address_type(a) as u64);
+    let n = uplink_width(UplinkAddrType::of(a));
     if v >> n != 0 {
-        return refusal::VALUE_TOO_WIDE;
+        return Err(Reason::ValueTooWide);
     }
-    0
+    Ok(())
 }
 
-// Why an address is not written with this encryption, or 0.
-pub fn encryption_refusal(encrypted: bool, a: UplinkAddress) -> u8
-    ensures { result ≡ encryption_refusal encrypted a }
+// Why an address is not written with this encryption, if so.
+pub fn encryption_refusal(encrypted: bool, a: UplinkAddress) -> Result<(), Reason>
+    ensures { refused_by result ≡ encryption_refusal encrypted a }
 {
     if !encrypted {
-        return 0;
+        return Ok(());
     }
     match a {
-        UplinkAddress::EventLabel(_) => 0,
-        UplinkAddress::Ssi(_, _) => refusal::ENCRYPTED_ADDRESS,
-        UplinkAddress::Ussi(_) => refusal::ENCRYPTED_ADDRESS,
-        UplinkAddress::Smi(_) => refusal::ENCRYPTED_ADDRESS,
+        UplinkAddress::EventLabel(_) => Ok(()),
+        UplinkAddress::Ssi(_, _) => Err(Reason::EncryptedAddress),
+        UplinkAddress::Ussi(_) => Err(Reason::EncryptedAddress),
+        UplinkAddress::Smi(_) => Err(Reason::EncryptedAddress),
     }
 }

@@ -1,15 +1,17 @@
 // What MAC-ACCESS and MAC-DATA begin with, clauses 21.4.2.1 and 21.4.2.3: PDU type 1 or 2, fill 1, encrypted 1, address type 2, address.
 ghost use Rattle.std.specs.Prelude.{◌≡◌, ◌+◌, ◌^◌, ◌≤◌, ◌<◌, Err};
+ghost use Rattle.tetra_core.specs.Refusal.{refused_by};
+ghost use Rattle.tetra_core.specs.declared.refusal.Reason.TheVariants.{WrongPduType};
 ghost use Rattle.codec.specs.Ahead.{Ready, ReadsNext};
 ghost use Rattle.codec.specs.Row.{RowIs};
 ghost use Rattle.tetra_fields.specs.UplinkAddress.{uplink_address_refusal};
 ghost use Rattle.tetra_fields.specs.UplinkHead.{behind_type, head_most, read_uplink_head, body_size, uplink_size, uplink_body_row, uplink_refusal};
 
+use crate::enums::uplink_addr_type::UplinkAddrType;
 use crate::fields::uplink_address;
 use codec::Ahead;
 use tetra_core::address::UplinkAddress;
-use tetra_core::refusal::Refusal;
-use tetra_core::{address, refusal};
+use tetra_core::refusal::{Reason, Refusal};
 
 // The bits between the PDU type and the address: fill, encrypted and address type.
 const BEHIND_TYPE: usize = 4;
@@ -46,10 +48,10 @@ fn cut_off(a: Ahead, w: usize) -> Refusal
 
 // The refusal of a header that is ahead, for its PDU type.
 fn wrong_type(a: Ahead) -> Refusal
-    ensures { result ≡ record { number = 4; offset = a.at } }
+    ensures { result ≡ record { reason = WrongPduType; offset = a.at } }
 {
     Refusal {
-        number: refusal::WRONG_PDU_TYPE,
+        reason: Reason::WrongPduType,
         offset: a.at,
     }
 }
@@ -67,7 +69,8 @@ pub fn read_uplink_head(a: Ahead, w: usize) -> Result<(Ahead, UplinkHead), Refus
     if x / TYPE != 0 {
         return Err(wrong_type(a));
     }
-    let (after, addr) = uplink_address::read_uplink_address(codec::advance(a, n), x % 4)?;
+    let t = UplinkAddrType::from_raw(x);
+    let (after, addr) = uplink_address::read_uplink_address(codec::advance(a, n), t)?;
     let head = UplinkHead {
         fill_bits: x / FILL % 2 != 0,
         encrypted: x / ENCRYPTED % 2 != 0,
@@ -81,21 +84,19 @@ pub fn uplink_size(w: usize, a: UplinkAddress) -> usize
     requires { w ≤ 2 }
     ensures { (result ≡ uplink_size w a) × (result ≤ head_most) }
 {
-    w + (BEHIND_TYPE + uplink_address::uplink_width(address::uplink_address_type(a) as u64))
+    w + (BEHIND_TYPE + uplink_address::uplink_width(UplinkAddrType::of(a)))
 }
 
-// Why a header is not written whose other fields are refused by option or by 0.
-pub fn uplink_refusal(encrypted: bool, a: UplinkAddress, option: u8) -> u8
-    ensures { result ≡ uplink_refusal encrypted a option }
+// Why a header is not written whose other fields may be refused by option, if so.
+pub fn uplink_refusal(
+    encrypted: bool,
+    a: UplinkAddress,
+    option: Result<(), Reason>,
+) -> Result<(), Reason>
+    ensures { refused_by result ≡ uplink_refusal encrypted a (refused_by option) }
 {
-    let encryption = uplink_address::encryption_refusal(encrypted, a);
-    if encryption != 0 {
-        return encryption;
-    }
-    let number = uplink_address::uplink_address_refusal(a);
-    if number != 0 {
-        return number;
-    }
+    uplink_address::encryption_refusal(encrypted, a)?;
+    uplink_address::uplink_address_refusal(a)?;
     option
 }
 
@@ -105,11 +106,8 @@ pub fn uplink_word(h: UplinkHead) -> u64
     ensures { RowIs (uplink_body_row h) (body_size h.addr) result × (result < 2 ^ 28) }
 {
     let addr = h.addr;
-    let kind = address::uplink_address_type(addr) as u64;
+    let t = UplinkAddrType::of(addr);
+    let kind = t.into_raw();
     let head = codec::bit(h.fill_bits) * FILL + (codec::bit(h.encrypted) * ENCRYPTED + kind);
-    let number = uplink_address::uplink_number(addr);
-    if kind == 1 {
-        return head * uplink_address::BEFORE_LABEL + number;
-    }
-    head * uplink_address::BEFORE_NUMBER + number
+    (head << uplink_address::uplink_width(t)) + uplink_address::uplink_number(addr)
 }

@@ -1,5 +1,6 @@
 use mathlib.Core.Path.{ap, ◌∙◌}
 use Rattle.mac_resource.specs.Address.{is_null}
+use Rattle.mac_resource.specs.MacResource.{alone_refusal}
 use Rattle.mac_resource.specs.Laws.Encoded.{alone-encodes}
 use Rattle.mac_resource.specs.declared.mac_resource.MacResource.{MacResource}
 use Rattle.tetra_resource.specs.MacResource.{mac_resource_value}
@@ -13,5 +14,7 @@ rest_of-requires c =
 pub returns : goal.returns
 returns c =
     let ws = c.args.words.now in
-    rw (c.whole.ensures, c.alone_refusal-before.ensures, c.bare_of-h.ensures, alone-same ws)
-    (alone-encodes (mac_resource_value ws) (rw (own_length ws) at (front_same ws _ (rw c.bare_of-h.ensures at c.front_alone-front.ensures))) c.rest_of.ensures)
+    rw c.whole.ensures
+    (alone-encodes (mac_resource_value ws) c.alone_refusal-before.result c.front_alone-front.result c.rest_of.result
+    (c.alone_refusal-before.ensures ∙ ap alone_refusal c.bare_of-h.ensures ∙ alone-same ws)
+    (rw (own_length ws) at (front_same ws _ c.front_alone-front.result (rw c.bare_of-h.ensures at c.front_alone-front.ensures))) c.rest_of.ensures)

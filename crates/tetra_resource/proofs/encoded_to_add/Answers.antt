@@ -2,6 +2,7 @@ use mathlib.Core.Path.{ap, ◌∙◌}
 use mathlib.Core.Bool.{Bool, not}
 use Rattle.tetra_core.specs.Refusal.{unless}
 use Rattle.mac_resource.specs.Address.{is_null}
+use Rattle.mac_resource.specs.MacResource.{null_added}
 use Rattle.mac_resource.specs.Laws.Encoded.{add-encodes}
 use Rattle.mac_resource.specs.declared.mac_resource.MacResource.{MacResource}
 use Rattle.tetra_resource.specs.MacResource.{mac_resource_value}
@@ -15,5 +16,7 @@ rest_of-requires c =
 pub returns : goal.returns
 returns c =
     let ws = c.args.words.now in
-    rw (c.whole.ensures, c.null_added-before.ensures, c.bare_of-h.ensures, ap (λ (t : Bool). unless (not t) 9) (null-same ws))
-    (add-encodes (mac_resource_value ws) (front_same ws _ (rw c.bare_of-h.ensures at c.front_to_add-front.ensures)) c.rest_of.ensures)
+    rw c.whole.ensures
+    (add-encodes (mac_resource_value ws) c.null_added-before.result c.front_to_add-front.result c.rest_of.result
+    (c.null_added-before.ensures ∙ ap null_added c.bare_of-h.ensures ∙ ap (λ (t : Bool). unless (not t) 9) (null-same ws))
+    (front_same ws _ c.front_to_add-front.result (rw c.bare_of-h.ensures at c.front_to_add-front.ensures)) c.rest_of.ensures)

@@ -15,7 +15,7 @@ returns-in-Ok c =
 
 pub returns-in-Err : goal.returns-in-Err
 returns-in-Err c =
-    count-replied _ _ _ _ c.mac_resource_known.ensures (ap not c.if-not-mac_resource_known.false) c.if-out-lt3.false c.mac_resource_value-h.ensures (rw (← c.update_len_and_fill_ind.ensures, c.in-Err.is))
+    count-replied _ _ _ _ c.mac_resource_known.ensures (ap not c.if-not-mac_resource_known.false) c.if-out-lt3.false c.mac_resource_value-h.ensures (rw (← c.update_len_and_fill_ind.ensures, c.in-Err.is, c.number.ensures))
 
 pub returns-then-out-lt3 : goal.returns-then-out-lt3
 returns-then-out-lt3 c = count_no_room _ _ _ _ c.if-out-lt3.true

@@ -1,10 +1,12 @@
-use mathlib.Core.Path.{sym, ◌∙◌}
-use Rattle.tetra_core.specs.Refusal.{first-here, first_skip, first_last}
+use Rattle.tetra_core.specs.Refusal.{first_last, stopped, went_on}
 use Rattle.access_assign.proofs.access_assign.access_assign_refusal.Goals as goal
 
-pub returns-then-number-ne0 : goal.returns-then-number-ne0
-returns-then-number-ne0 c = rw (c.in-DownlinkDefinedUplinkDefined.is, ← c.usage_refusal-number.ensures) (sym (first-here _ _ c.if-number-ne0.true))
+pub returns-in_err-usage_refusal-in-DownlinkDefinedUplinkDefined : goal.returns-in_err-usage_refusal-in-DownlinkDefinedUplinkDefined
+returns-in_err-usage_refusal-in-DownlinkDefinedUplinkDefined c =
+    rw c.in-DownlinkDefinedUplinkDefined.is
+    (stopped c.from_residual.result _ c.usage_refusal-in-DownlinkDefinedUplinkDefined.ensures c.in_err-usage_refusal-in-DownlinkDefinedUplinkDefined.was c.from_residual.ensures.1)
 
-pub returns-else-number-ne0 : goal.returns-else-number-ne0
-returns-else-number-ne0 c =
-    rw (c.in-DownlinkDefinedUplinkDefined.is, first_skip _ _ (sym c.usage_refusal-number.ensures ∙ c.if-number-ne0.false), first_last) c.usage_refusal-in-DownlinkDefinedUplinkDefined.ensures
+pub returns-in_ok-usage_refusal-in-DownlinkDefinedUplinkDefined : goal.returns-in_ok-usage_refusal-in-DownlinkDefinedUplinkDefined
+returns-in_ok-usage_refusal-in-DownlinkDefinedUplinkDefined c =
+    rw (c.in-DownlinkDefinedUplinkDefined.is, went_on _ c.usage_refusal-in-DownlinkDefinedUplinkDefined.ensures c.in_ok-usage_refusal-in-DownlinkDefinedUplinkDefined.was, first_last)
+    c.usage_refusal-in-DownlinkDefinedUplinkDefined-2.ensures

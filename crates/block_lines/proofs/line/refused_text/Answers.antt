@@ -8,4 +8,4 @@ pub returns : goal.returns
 unfolding line_text
 returns c =
     wider line_most (omega arith)
-    (then c.number.ensures (then c.word.ensures (then c.space_number.ensures (then c.space_number-2.ensures c.byte.ensures))))
+    (then c.number.ensures (then c.word.ensures (then (rw c.number-2.ensures at c.space_number.ensures) (then c.space_number-2.ensures c.byte.ensures))))

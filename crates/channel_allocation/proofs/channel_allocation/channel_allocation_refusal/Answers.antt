@@ -2,7 +2,7 @@ use mathlib.Core.Path.{◌≡◌, refl}
 use mathlib.Core.List.{[], ◌∷◌}
 use native.Mathlib.Omega.{arith}
 use borrow.Author.Tests.{lt-ltb, le-ltb}
-use Rattle.tetra_core.specs.Refusal.{first, first_skip, first-here, first_last}
+use Rattle.tetra_core.specs.Refusal.{first, first_skip, first_last, stopped, went_on}
 use Rattle.channel_allocation.specs.ChannelAllocation.{frame18_refusal, len_refusal, channel_allocation_refusal}
 use Rattle.channel_allocation.proofs.channel_allocation.channel_allocation_refusal.Goals.{Else-e-gt3}
 use Rattle.channel_allocation.proofs.channel_allocation.channel_allocation_refusal.Goals as goal
@@ -25,9 +25,11 @@ others c =
     let e = c.args.e in
     rw (lt-ltb e.carrier_num 4096 (omega arith), lt-ltb e.mon_pattern 4 (omega arith), first_skip 0 _ refl, first_skip 0 _ refl)
 
-pub returns-then-number-ne0 : goal.returns-then-number-ne0
-returns-then-number-ne0 c = rw (others (goal.at.returns-then-number-ne0 c).Else-e-gt3, ← c.frame18_refusal-number.ensures, first-here _ _ c.if-number-ne0.true)
+pub returns-in_err-frame18_refusal : goal.returns-in_err-frame18_refusal
+returns-in_err-frame18_refusal c =
+    rw (others (goal.at.returns-in_err-frame18_refusal c).Else-e-gt3)
+    (stopped c.from_residual.result _ c.frame18_refusal.ensures c.in_err-frame18_refusal.was c.from_residual.ensures.1)
 
 pub returns : goal.returns
 returns c =
-    rw (others (goal.at.returns c).Else-e-gt3, ← c.frame18_refusal-number.ensures, first_skip _ _ c.if-number-ne0.false, first_last) c.len_refusal.ensures
+    rw (others (goal.at.returns c).Else-e-gt3, went_on _ c.frame18_refusal.ensures c.in_ok-frame18_refusal.was, first_last) c.len_refusal.ensures

@@ -9,7 +9,7 @@ use Rattle.codec.proofs.encoded.write.Goals as goal
 
 pub put-requires : goal.put-requires
 put-requires c z =
-    let f = free _ _ _ _ (sym c.write_refusal-number.ensures ∙ z) in
+    let f = free _ _ _ _ (sym c.write_refusal-judged.ensures ∙ z) in
     let g = f.good in
     let d = c.requires in
     record {
@@ -23,11 +23,11 @@ put-requires c z =
 
 pub moved_unless-requires : goal.moved_unless-requires
 moved_unless-requires c z =
-    let f = free _ _ _ _ (sym c.write_refusal-number.ensures ∙ z) in
+    let f = free _ _ _ _ (sym c.write_refusal-judged.ensures ∙ z) in
     let g = f.good in
     omega arith
 
 pub returns : goal.returns
 unfolding write_at written_at
 returns c =
-    rw (append-nil, piece_size _, ← c.write_refusal-number.ensures) (c.moved_unless.ensures, rw (bits-zero, append-nil) at c.put.ensures)
+    rw (append-nil, piece_size _, ← c.write_refusal-judged.ensures) (c.moved_unless.ensures, rw (bits-zero, append-nil) at c.put.ensures)

@@ -1,5 +1,5 @@
 use Rattle.std.proofs.Common.{sym, ◌∙◌}
-use Rattle.tetra_core.specs.Laws.Windows.{Good, good_facts}
+use Rattle.tetra_core.specs.Laws.Windows.{good_facts}
 use Rattle.codec.proofs.Laws.Ahead.{read-ends}
 use Rattle.codec.proofs.header.from_bitbuf.Goals as goal
 

@@ -2,8 +2,8 @@ use Rattle.std.proofs.Common.{arith, lit≤, eq-eqb, ne_eqb}
 use Rattle.std.proofs.lemmas.Result.{IfOk-weaker}
 use Rattle.codec.specs.Ahead.{Onward}
 use Rattle.codec.proofs.Laws.Header.{alone}
-use Rattle.codec.proofs.Laws.Ahead.{held_on, ready_on, onward, onward_then, ahead_field-short}
-use Rattle.mac_access.specs.MacAccess.{chosen_size, option_most, read_option}
+use Rattle.codec.proofs.Laws.Ahead.{held_on, onward, onward_then, ahead_field-short}
+use Rattle.mac_access.specs.MacAccess.{option_most, read_option}
 use Rattle.mac_access.proofs.mac_access.read_option.Goals as goal
 
 pub returns-then-a-lt1 : goal.returns-then-a-lt1
@@ -18,10 +18,6 @@ returns-then-next_bits-eq0 c =
       of = λ h e. record { means = rw (alone (c.next_bits.ensures.word h e i), eq-eqb _ _ c.if-next_bits-eq0.true, c.advance-after.ensures) };
       onward = rw c.advance-after.ensures (onward 1 option_most (omega arith) i);
     }
-
-pub read_chosen-requires : goal.read_chosen-requires
-read_chosen-requires c =
-    rw c.advance-after.ensures (ready_on 1 chosen_size c.requires (omega arith) c.if-a-lt1.false)
 
 pub returns : goal.returns
 unfolding read_option

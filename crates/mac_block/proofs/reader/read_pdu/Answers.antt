@@ -4,6 +4,7 @@ use borrow.Author.Rules.{rules}
 use Rattle.std.specs.Prelude.{Result}
 use Rattle.bits.specs.Bits.{bits_at}
 use Rattle.bits.proofs.Laws.Reads.{length_bits_at}
+use Rattle.tetra_core.specs.Refusal.{numbered}
 use Rattle.tetra_core.specs.declared.refusal.Refusal.{Refusal}
 use Rattle.codec.specs.Reader.{parse}
 use Rattle.codec.specs.declared.Ahead.{Ahead}
@@ -40,4 +41,5 @@ returns-in-Ok c = rw (own_read _ (header (goal.at.returns-in-Ok c).After-read_ma
 
 pub returns-in-Err : goal.returns-in-Err
 unfolding sized_entry
-returns-in-Err c = rw (own_refused _ (header (goal.at.returns-in-Err c).After-read_mac_resource c.in-Err.is))
+returns-in-Err c =
+    rw (own_refused _ (header (goal.at.returns-in-Err c).After-read_mac_resource c.in-Err.is), (numbered c.in-Err.refusal.reason).back)

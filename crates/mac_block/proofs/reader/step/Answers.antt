@@ -4,6 +4,7 @@ use Prim.Native.Nat.{ℕ, ◌-◌}
 use native.Mathlib.Omega.{arith}
 use borrow.Author.Rules.{rules}
 use Rattle.bits.specs.Bits.{bits_at}
+use Rattle.tetra_core.specs.Refusal.{numbered}
 use Rattle.codec.specs.Header.{within}
 use Rattle.codec.specs.declared.Ahead.{Ahead}
 use Rattle.codec.specs.Ahead.{Held}
@@ -68,7 +69,7 @@ returns-in-End c = rw (stepped (goal.at.returns-in-End c).After-extent_at (holds
 
 pub returns-in-Unsized : goal.returns-in-Unsized
 unfolding step_of pdu_of step_answer entry_of
-returns-in-Unsized c = rw (stepped (goal.at.returns-in-Unsized c).After-extent_at (holds (goal.at.returns-in-Unsized c).Else-not-good_block), c.in-Unsized.is)
+returns-in-Unsized c = rw (stepped (goal.at.returns-in-Unsized c).After-extent_at (holds (goal.at.returns-in-Unsized c).Else-not-good_block), c.in-Unsized.is, (numbered c.in-Unsized.reason).back)
 
 pub returns-in-Null : goal.returns-in-Null
 unfolding step_of pdu_of step_answer entry_of

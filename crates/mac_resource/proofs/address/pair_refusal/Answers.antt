@@ -1,12 +1,8 @@
-use mathlib.Core.Path.{◌∙◌, sym}
-use borrow.Author.Tests.{lt-ltb, le-ltb}
-use Rattle.tetra_core.specs.Refusal.{first, first_last}
+use Rattle.tetra_core.specs.Refusal.{first_last, stopped, went_on}
 use Rattle.mac_resource.proofs.address.pair_refusal.Goals as goal
 
-pub returns-then-v-lt-IDENTITY_LIMIT : goal.returns-then-v-lt-IDENTITY_LIMIT
-unfolding first
-returns-then-v-lt-IDENTITY_LIMIT c = rw (lt-ltb _ _ c.if-v-lt-IDENTITY_LIMIT.true) (c.too_wide.ensures ∙ sym (first_last _))
+pub returns-in_err-too_wide : goal.returns-in_err-too_wide
+returns-in_err-too_wide c = stopped c.from_residual.result _ c.too_wide.ensures c.in_err-too_wide.was c.from_residual.ensures.1
 
 pub returns : goal.returns
-unfolding first
-returns c = rw (le-ltb _ _ c.if-v-lt-IDENTITY_LIMIT.false)
+returns c = rw (went_on _ c.too_wide.ensures c.in_ok-too_wide.was, first_last) c.too_wide-2.ensures

@@ -1,5 +1,4 @@
 use mathlib.Core.Path.{◌∙◌, sym}
-use native.Mathlib.Omega.{arith}
 use Rattle.codec.proofs.Laws.Ahead.{ready_less, onward, onward-none}
 use Rattle.mac_resource.specs.Address.{address_most, read_address}
 use Rattle.mac_resource.proofs.Words.{address-none, address_parsed, address-short}

@@ -8,12 +8,12 @@ use Rattle.mac_resource.proofs.mac_resource.header_len.Goals as goal
 pub returns-then-is_null : goal.returns-then-is_null
 unfolding header_len
 returns-then-is_null c =
-    let n = c.address_len-n.ensures.0 ∙ ap address_len c.addr_type.ensures in
+    let n = c.address_len-n.ensures.0 ∙ ap address_len c.of.ensures in
     rw (sym c.is_null.ensures ∙ c.if-is_null.true, ← n) (omega arith, omega arith)
 
 pub returns : goal.returns
 unfolding header_len
 returns c =
-    let n = c.address_len-n.ensures.0 ∙ ap address_len c.addr_type.ensures in
+    let n = c.address_len-n.ensures.0 ∙ ap address_len c.of.ensures in
     let e = c.elements_len.ensures.0 ∙ ap elements_len c.elements_of.ensures in
     rw (sym c.is_null.ensures ∙ c.if-is_null.false, ← n, ← e) (omega arith, omega arith)

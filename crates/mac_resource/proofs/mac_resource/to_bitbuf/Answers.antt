@@ -8,7 +8,8 @@ use Rattle.mac_resource.proofs.mac_resource.to_bitbuf.Goals as goal
 encodes : (c : After-whole-e) → let h = c.args.h in
     EncodesResource (mac_resource_refusal h) h c.whole-e.result
 encodes c =
-    rw (c.whole-e.ensures, c.alone_refusal.ensures) (alone-encodes c.args.h c.front_alone-front.ensures c.rest_encoded.ensures)
+    rw c.whole-e.ensures
+    (alone-encodes c.args.h c.alone_refusal.result c.front_alone-front.result c.rest_encoded.result c.alone_refusal.ensures c.front_alone-front.ensures c.rest_encoded.ensures)
 
 pub write_header-requires : goal.write_header-requires
 write_header-requires c =

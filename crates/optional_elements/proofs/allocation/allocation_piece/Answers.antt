@@ -12,7 +12,7 @@ channel_allocation_word-requires c = rw c.in-Some.is at c.requires
 pub joined-requires : goal.joined-requires
 joined-requires c =
     let l = c.allocation_len.ensures in
-    (lit< tt, rw l.0 c.channel_allocation_word.ensures.1, omega arith)
+    (lit< tt, rw l.0 c.channel_allocation_word.ensures.small, omega arith)
 
 pub returns-in-None : goal.returns-in-None
 returns-in-None c = rw (c.in-None.is, append-nil) (row_holds (row_is (cell 1 0 ∷ []) (lit< tt, tt)))
@@ -22,4 +22,4 @@ returns-in-Some c =
     let l = c.allocation_len.ensures.0 in
     let x = c.channel_allocation_word.ensures in
     rw c.in-Some.is
-    (join_holds (row_holds (row_is (cell 1 1 ∷ []) (lit< tt, tt))) (record { is = rw l x.0; size = l; small = rw l x.1 }) c.joined.ensures)
+    (join_holds (row_holds (row_is (cell 1 1 ∷ []) (lit< tt, tt))) (record { is = rw l x.is; size = l; small = rw l x.small }) c.joined.ensures)

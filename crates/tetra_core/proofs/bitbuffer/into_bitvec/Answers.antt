@@ -1,37 +1,31 @@
-use mathlib.Core.Path.{◌≡◌, sym, ◌∙◌}
+use mathlib.Core.Path.{sym}
 use native.Mathlib.Omega.{arith}
-use lib.ListN.{length}
 use lib.Seq.{length-take-le}
-use Rattle.tetra_core.specs.BitBuffer.{bitvec_refusal, into_bitvec, bitvec}
+use Rattle.tetra_core.specs.BitBuffer.{into_bitvec, bitvec}
 use Rattle.tetra_core.specs.Laws.Windows.{takeable, read-refused, read_done, bytes-refused, bytes-done}
-use Rattle.tetra_core.proofs.bitbuffer.into_bitvec.Goals.{Else-number-ne0}
 use Rattle.tetra_core.proofs.bitbuffer.into_bitvec.Goals as goal
 
-none : (c : Else-number-ne0)
-    → bitvec_refusal (length c.args.s.now) c.args.c (length c.args.buf.now) ≡ 0
-none c = sym c.bitvec_refusal-number.ensures ∙ c.if-number-ne0.false
-
-pub returns-then-number-ne0 : goal.returns-then-number-ne0
+pub returns-in-Err : goal.returns-in-Err
 unfolding into_bitvec bitvec
-returns-then-number-ne0 c =
-    let e = c.bitvec_refusal-number.ensures in
-    (rw c.refused.ensures (read-refused _ _ _ _ _ e c.if-number-ne0.true), bytes-refused _ _ _ _ e c.if-number-ne0.true)
+returns-in-Err c =
+    let e = c.in-Err.ensures in
+    (rw c.refused.ensures (read-refused _ _ _ _ _ e), bytes-refused _ _ _ _ e)
 
 pub overflow_sub-n : goal.overflow_sub-n
-overflow_sub-n c = let r = takeable _ _ _ (none (goal.at.overflow_sub-n c).Else-number-ne0) in let g = r.good in omega arith
+overflow_sub-n c = let r = takeable _ _ _ (sym c.in-Ok.ensures) in let g = r.good in omega arith
 
 pub slice_bounds-spread_all-end : goal.slice_bounds-spread_all-end
-slice_bounds-spread_all-end c = (takeable _ _ _ (none (goal.at.slice_bounds-spread_all-end c).Else-number-ne0)).room
+slice_bounds-spread_all-end c = (takeable _ _ _ (sym c.in-Ok.ensures)).room
 
-pub slice_bounds-spread_all-end-2 : goal.slice_bounds-spread_all-end-2
-slice_bounds-spread_all-end-2 c = sym (length-take-le _ _ (takeable _ _ _ (none (goal.at.slice_bounds-spread_all-end-2 c).Else-number-ne0)).room)
+pub slice_bounds-spread_all-end-in-Ok : goal.slice_bounds-spread_all-end-in-Ok
+slice_bounds-spread_all-end-in-Ok c = sym (length-take-le _ _ (takeable _ _ _ (sym c.in-Ok.ensures)).room)
 
 pub spread_all-requires : goal.spread_all-requires
-spread_all-requires c = let r = takeable _ _ _ (none (goal.at.spread_all-requires c).Else-number-ne0) in let g = r.good in rw (length-take-le _ _ r.room) (omega arith, omega arith)
+spread_all-requires c = let r = takeable _ _ _ (sym c.in-Ok.ensures) in let g = r.good in rw (length-take-le _ _ r.room) (omega arith, omega arith)
 
-pub returns : goal.returns
+pub returns-in-Ok : goal.returns-in-Ok
 unfolding into_bitvec bitvec
-returns c =
-    let e = none (goal.at.returns c).Else-number-ne0 in
+returns-in-Ok c =
+    let e = sym c.in-Ok.ensures in
     let r = takeable _ _ _ e in
     (read_done _ _ _ _ e, rw (c.spread_all.ensures, length-take-le _ _ r.room) (bytes-done _ _ _ e))

@@ -1,19 +1,19 @@
-use mathlib.Core.Path.{sym, ◌∙◌}
+use mathlib.Core.Path.{sym}
 use native.Mathlib.Omega.{arith}
 use Rattle.tetra_core.specs.BitBuffer.{peek_at}
 use Rattle.tetra_core.specs.Laws.Windows.{readable, read-refused, read_done}
 use Rattle.tetra_core.proofs.bitbuffer.peek_at.Goals as goal
 
-pub returns-then-number-ne0 : goal.returns-then-number-ne0
+pub returns-in-Err : goal.returns-in-Err
 unfolding peek_at
-returns-then-number-ne0 c = rw c.refused.ensures (read-refused _ _ _ _ _ c.read_refusal-number.ensures c.if-number-ne0.true)
+returns-in-Err c = rw c.refused.ensures (read-refused _ _ _ _ _ c.in-Err.ensures)
 
 pub get_bits-value-requires : goal.get_bits-value-requires
 get_bits-value-requires c =
-    let r = readable _ _ _ _ (sym c.read_refusal-number.ensures ∙ c.if-number-ne0.false) in
+    let r = readable _ _ _ _ (sym c.in-Ok.ensures) in
     let g = r.good in
     omega arith
 
-pub returns : goal.returns
+pub returns-in-Ok : goal.returns-in-Ok
 unfolding peek_at
-returns c = rw c.get_bits-value.ensures (read_done _ _ _ _ (sym c.read_refusal-number.ensures ∙ c.if-number-ne0.false))
+returns-in-Ok c = rw c.get_bits-value.ensures (read_done _ _ _ _ (sym c.in-Ok.ensures))

@@ -14,7 +14,7 @@ returns-in-Ok c =
 
 pub returns-in-Err : goal.returns-in-Err
 returns-in-Err c =
-    count-replied _ _ _ _ c.channel_allocation_known.ensures (ap not c.if-not-channel_allocation_known.false) c.if-out-lt1.false c.channel_allocation_value-e.ensures (rw (← c.compute_len.ensures, c.in-Err.is))
+    count-replied _ _ _ _ c.channel_allocation_known.ensures (ap not c.if-not-channel_allocation_known.false) c.if-out-lt1.false c.channel_allocation_value-e.ensures (rw (← c.compute_len.ensures, c.in-Err.is, c.number.ensures))
 
 pub returns-then-out-lt1 : goal.returns-then-out-lt1
 returns-then-out-lt1 c = count_no_room _ _ _ _ c.if-out-lt1.true

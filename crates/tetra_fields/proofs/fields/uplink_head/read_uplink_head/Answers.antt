@@ -1,4 +1,4 @@
-use Rattle.std.proofs.Common.{ℕ, ◌+◌, ◌/◌, ◌%◌, ◌^◌, ◌≡◌, List, ◌++◌, Bool, drop, arith, lit≤, add_assoc, eq-eqb, ne_eqb, Result}
+use Rattle.std.proofs.Common.{ℕ, ◌+◌, ◌/◌, ◌%◌, ◌^◌, ◌≡◌, sym, ap, ◌∙◌, List, ◌++◌, Bool, drop, arith, lit≤, add_assoc, eq-eqb, ne_eqb, Result}
 use Rattle.std.proofs.Math.Pow.{shr_mod}
 use Rattle.std.proofs.lemmas.Result.{err_from_is_err_and}
 use Rattle.bits.specs.Bits.{bits_of_nat}
@@ -12,6 +12,8 @@ use Rattle.codec.specs.Cases.{flag}
 use Rattle.codec.specs.Header.{Word}
 use Rattle.codec.specs.Ahead.{Held, part_out}
 use Rattle.codec.proofs.Laws.Ahead.{held_on, ready_on, onward, onward_then, next-read, on-from}
+use Rattle.tetra_fields.specs.UplinkAddress.{uplink_type_number}
+use Rattle.tetra_fields.specs.Laws.UplinkAddress.{uplink_type-again}
 use Rattle.tetra_fields.specs.UplinkHead.{read_uplink_head, read_uplink_body}
 use Rattle.tetra_fields.specs.declared.fields.uplink_head.UplinkHead.{UplinkHead}
 use Rattle.tetra_fields.proofs.fields.uplink_head.read_uplink_head.Goals.{After-read_uplink_address}
@@ -45,11 +47,13 @@ unfolding read_uplink_head read_uplink_body
 to_address c h e was =
     let a = c.args in
     let at : c.advance.result.at ≡ a.a.at + a.w + 4 = rw c.advance.ensures (omega arith) in
+    let kind : c.next_bits-x.result % 4 ≡ uplink_type_number c.from_raw-t.result = sym (ap uplink_type_number c.from_raw-t.ensures ∙ uplink_type-again _) in
     rw (
       first_of a.w 4 (c.next_bits-x.ensures.word h e c.if-a-n.false),
       eq-eqb _ _ c.if-x-ne0.false,
       parse-word read_uplink_body _ 4 0 _ (a.a.at + a.w),
       parse_bind,
+      kind,
       next-read {h = h} c.read_uplink_address.ensures (rw c.advance.ensures (held_on _ e c.if-a-n.false)) at was,
     )
 

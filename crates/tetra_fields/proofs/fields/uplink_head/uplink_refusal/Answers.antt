@@ -1,22 +1,24 @@
-use mathlib.Core.Path.{sym, ◌∙◌}
-use Rattle.tetra_core.specs.Refusal.{first-here, first_skip, first_last}
+use Rattle.tetra_core.specs.Refusal.{first_last, stopped, went_on}
 use Rattle.tetra_fields.specs.UplinkHead.{uplink_refusal}
 use Rattle.tetra_fields.proofs.fields.uplink_head.uplink_refusal.Goals as goal
 
-pub returns-then-encryption-ne0 : goal.returns-then-encryption-ne0
+pub returns-in_err-encryption_refusal : goal.returns-in_err-encryption_refusal
 unfolding uplink_refusal
-returns-then-encryption-ne0 c = let e = c.encryption_refusal-encryption.ensures in e ∙ sym (first-here _ _ (λ z. c.if-encryption-ne0.true (e ∙ z)))
+returns-in_err-encryption_refusal c =
+    stopped c.from_residual.result _ c.encryption_refusal.ensures c.in_err-encryption_refusal.was c.from_residual.ensures.1
 
-pub returns-then-number-ne0 : goal.returns-then-number-ne0
+pub returns-in_err-uplink_address_refusal : goal.returns-in_err-uplink_address_refusal
 unfolding uplink_refusal
-returns-then-number-ne0 c =
-    let e = c.encryption_refusal-encryption.ensures in
-    let a = c.uplink_address_refusal-number.ensures in
-    a ∙ sym (first_skip _ _ (sym e ∙ c.if-encryption-ne0.false) ∙ first-here _ _ (λ z. c.if-number-ne0.true (a ∙ z)))
+returns-in_err-uplink_address_refusal c =
+    rw (went_on _ c.encryption_refusal.ensures c.in_ok-encryption_refusal.was)
+    (stopped c.from_residual-in_err-uplink_address_refusal.result _ c.uplink_address_refusal.ensures c.in_err-uplink_address_refusal.was
+    c.from_residual-in_err-uplink_address_refusal.ensures.1)
 
 pub returns : goal.returns
 unfolding uplink_refusal
 returns c =
-    let e = c.encryption_refusal-encryption.ensures in
-    let a = c.uplink_address_refusal-number.ensures in
-    sym (first_skip _ _ (sym e ∙ c.if-encryption-ne0.false) ∙ first_skip _ _ (sym a ∙ c.if-number-ne0.false) ∙ first_last _)
+    rw (
+      went_on _ c.encryption_refusal.ensures c.in_ok-encryption_refusal.was,
+      went_on _ c.uplink_address_refusal.ensures c.in_ok-uplink_address_refusal.was,
+      first_last,
+    )
