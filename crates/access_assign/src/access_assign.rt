@@ -134,9 +134,9 @@ fn read_access_assign(a: Ahead) -> Result<(Ahead, AccessAssign), Refusal>
     if a.left < SIZE {
         return Err(codec::fields_past_end(&[2, 6, 6], a.left, o));
     }
-    let x = codec::next_bits(a, SIZE);
+    let x = a.next_bits(SIZE);
     let assign = access_assign_of(x / HEADER % 4, x / FIELD_ONE % 64, x % 64, o + FIELD_TWO_AT)?;
-    Ok((codec::advance(a, SIZE), assign))
+    Ok((a.advance(SIZE), assign))
 }
 
 impl Header for AccessAssign {

@@ -2,12 +2,6 @@
 ghost use Rattle.std.specs.Prelude.{◌≡◌, ◌+◌, ◌-◌, ◌*◌, ◌/◌, ◌%◌, ◌^◌, ◌≤◌, ◌<◌, min, length};
 ghost use Rattle.bits.specs.Bits.{get_bits, put_bits, bits_of_nat, patch, Leading};
 
-pub fn min(a: usize, b: usize) -> usize
-    ensures { result ≡ min a b }
-{
-    a.min(b)
-}
-
 // 2 ^ k - 1
 fn mask(k: usize) -> u64
     requires { k ≤ 8 }
@@ -42,12 +36,6 @@ fn load8(s: &[u8], at: usize) -> u64
         s[at + 6],
         s[at + 7],
     ])
-}
-
-pub fn widen(x: u8) -> u64
-    ensures { result ≡ x }
-{
-    u64::from(x)
 }
 
 // The n bits of x after its o high bits.
@@ -161,7 +149,7 @@ fn put_by_bytes(s: &mut [u8], pos: usize, n: usize, v: u64)
         let p = pos + done;
         let at = p / 8;
         let room = 8 - p % 8;
-        let k = min(n - done, room);
+        let k = room.min(n - done);
         let b = s[at];
         s[at] = byte_replaced(b, k, room - k, v >> (n - done - k));
         done += k;

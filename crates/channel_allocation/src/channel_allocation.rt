@@ -124,8 +124,8 @@ fn read_mon_patterns(a: Ahead) -> Result<(Ahead, MonPatterns), Refusal>
     if a.left < 2 {
         return Err(codec::field_past_end(a.at));
     }
-    let pattern = codec::next_bits(a, 2);
-    let b = codec::advance(a, 2);
+    let pattern = a.next_bits(2);
+    let b = a.advance(2);
     if pattern != 0 {
         let alone = MonPatterns {
             mon_pattern: pattern as u8,
@@ -136,12 +136,12 @@ fn read_mon_patterns(a: Ahead) -> Result<(Ahead, MonPatterns), Refusal>
     if b.left < 2 {
         return Err(codec::field_past_end(b.at));
     }
-    let v = codec::next_bits(b, 2);
+    let v = b.next_bits(2);
     let both = MonPatterns {
         mon_pattern: pattern as u8,
         frame18_mon_pattern: Some(v as u8),
     };
-    Ok((codec::advance(b, 2), both))
+    Ok((b.advance(2), both))
 }
 
 // The channel allocation whose first 23 bits are the number x, with its patterns.
@@ -169,14 +169,14 @@ pub fn read_channel_allocation(a: Ahead) -> Result<(Ahead, ChanAllocElement), Re
     if a.left < HEAD_BITS {
         return Err(codec::fields_past_end(&[2, 4, 2, 1, 1, 12, 1], a.left, a.at));
     }
-    let x = codec::next_bits(a, HEAD_BITS);
+    let x = a.next_bits(HEAD_BITS);
     if x % 2 != 0 {
         return Err(Refusal {
             reason: Reason::ExtendedCarrier,
             offset: a.at + EXTENSION_AT,
         });
     }
-    let (after, patterns) = read_mon_patterns(codec::advance(a, HEAD_BITS))?;
+    let (after, patterns) = read_mon_patterns(a.advance(HEAD_BITS))?;
     if x / DIRECTION % 4 == 0 {
         return Err(Refusal {
             reason: Reason::Augmented,

@@ -23,6 +23,7 @@
 --            join_rows     a row and a tail as one number; rows_append, rows_joined: two rows are one
 -- Width      fits-field    a value that is not refused fits its field
 -- Write      free, free_test  what is known where nothing refuses a write, and back
+--            write_refused  the refused return of a call that writes, its answer and its bytes
 --            write_done    the last return of one
 -- Piece      row_holds     a row that is one number, as a piece; join_holds: two pieces joined
 -- Encoded    front-set     a front with a length and a fill flag set is the front that is defined with them

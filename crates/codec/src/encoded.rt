@@ -96,7 +96,7 @@ pub fn of<T: Encode>(v: T) -> Encoded
 }
 
 // Writes what one piece holds at the cursor.
-fn write(s: &mut [u8], c: Cursor, e: Encoded) -> Moved
+pub fn write(s: &mut [u8], c: Cursor, e: Encoded) -> Moved
     requires { Sound (refused_by e.judged) (e.piece ∷ []) }
     ensures { (result ≡ write_at s.old c (refused_by e.judged) (pieces_bits (e.piece ∷ []))) × (s.new ≡ written_at s.old c (refused_by e.judged) (pieces_bits (e.piece ∷ []))) }
 {

@@ -31,6 +31,41 @@ pub struct Ahead {
     pub used: usize,
 }
 
+impl Ahead {
+    // The next n bits as a number.
+    pub fn next_bits(self, n: usize) -> u64
+        requires { Ready self n × (0 < n) }
+        ensures { NextBits self n result }
+    {
+        bits::word::word_field(self.word, self.used, n)
+    }
+
+    // What is ahead n bits on.
+    pub fn advance(self, n: usize) -> Ahead
+        requires { Ready self n × (n ≤ self.left) }
+        ensures { result ≡ advanced self n }
+    {
+        Ahead {
+            at: self.at + n,
+            left: self.left - n,
+            word: self.word,
+            used: self.used + n,
+        }
+    }
+
+    // The same of a header that ends left bits from here.
+    pub fn ending_in(self, left: usize) -> Ahead
+        ensures { result ≡ ending_in self left }
+    {
+        Ahead {
+            at: self.at,
+            left,
+            word: self.word,
+            used: self.used,
+        }
+    }
+}
+
 // Loads what is ahead at the offset o of a header: 64 bits, or as many as the bytes have. Those behind the window are never looked at.
 pub fn load(s: &[u8], c: Cursor, o: usize) -> Ahead
     requires { Good (length s.now) c }
@@ -50,39 +85,6 @@ pub fn load(s: &[u8], c: Cursor, o: usize) -> Ahead
         left: size - o,
         word: bits::word::get_ahead(s, c.pos + o),
         used: 0,
-    }
-}
-
-// The next n bits as a number.
-pub fn next_bits(a: Ahead, n: usize) -> u64
-    requires { Ready a n × (0 < n) }
-    ensures { NextBits a n result }
-{
-    bits::word::word_field(a.word, a.used, n)
-}
-
-// What is ahead n bits on.
-pub fn advance(a: Ahead, n: usize) -> Ahead
-    requires { Ready a n × (n ≤ a.left) }
-    ensures { result ≡ advanced a n }
-{
-    Ahead {
-        at: a.at + n,
-        left: a.left - n,
-        word: a.word,
-        used: a.used + n,
-    }
-}
-
-// The same of a header that ends left bits from here.
-pub fn ending_in(a: Ahead, left: usize) -> Ahead
-    ensures { result ≡ ending_in a left }
-{
-    Ahead {
-        at: a.at,
-        left,
-        word: a.word,
-        used: a.used,
     }
 }
 
@@ -126,7 +128,7 @@ pub fn fields_past_end(widths: &[u8], left: usize, o: usize) -> Refusal
 pub fn bit(b: bool) -> u64
     ensures { (result ≡ digit b) × (result < 2) }
 {
-    if b { 1 } else { 0 }
+    u64::from(b)
 }
 
 // Why a number that must be below a limit is not written, if so.

@@ -102,13 +102,13 @@ fn read_chosen(a: Ahead) -> Result<(Ahead, MacAccessOption), Refusal>
         return Err(codec::field_past_end(a.at));
     }
     if a.left < CHOSEN_BITS {
-        if codec::next_bits(a, 1) == 0 {
+        if a.next_bits(1) == 0 {
             return Err(codec::field_past_end(a.at + 1));
         }
         return Err(codec::fields_past_end(&[1, 4], a.left - 1, a.at + 1));
     }
-    let x = codec::next_bits(a, CHOSEN_BITS);
-    let after = codec::advance(a, CHOSEN_BITS);
+    let x = a.next_bits(CHOSEN_BITS);
+    let after = a.advance(CHOSEN_BITS);
     if x / SELECTOR % 2 == 0 {
         return Ok((after, MacAccessOption::LengthInd((x % 32) as u8)));
     }
@@ -127,8 +127,8 @@ fn read_option(a: Ahead) -> Result<(Ahead, MacAccessOption), Refusal>
     if a.left < 1 {
         return Err(codec::field_past_end(a.at));
     }
-    let after = codec::advance(a, 1);
-    if codec::next_bits(a, 1) == 0 {
+    let after = a.advance(1);
+    if a.next_bits(1) == 0 {
         return Ok((after, MacAccessOption::Without));
     }
     read_chosen(after)

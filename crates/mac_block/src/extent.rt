@@ -68,7 +68,7 @@ pub(crate) fn extent_at(a: Ahead, left: usize) -> Extent
     if left < LEAST_BITS {
         return Extent::End;
     }
-    let x = codec::next_bits(a, LEAST_BITS);
+    let x = a.next_bits(LEAST_BITS);
     let pdu_type = ((x >> BEHIND_TYPE) % 4) as u8;
     let length = ((x >> BEHIND_LENGTH) % 64) as u8;
     let address_type = (x % 8) as u8;

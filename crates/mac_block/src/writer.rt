@@ -77,7 +77,7 @@ fn pdu_size(indication: LengthIndication, left: usize, total: usize) -> usize
     match indication {
         LengthIndication::Counted => {
             let bits = quantity::octets_to_bits(octets_of(total)).0 as usize;
-            word::min(bits, left)
+            bits.min(left)
         }
         LengthIndication::SecondSlotStolen => left,
         LengthIndication::FragStart => left,

@@ -73,13 +73,13 @@ fn read_option(a: Ahead) -> Result<(Ahead, MacDataOption), Refusal>
         return Err(codec::field_past_end(a.at));
     }
     if left < OPTION_BITS {
-        if codec::next_bits(a, 1) == 0 {
+        if a.next_bits(1) == 0 {
             return Err(codec::field_past_end(a.at + 1));
         }
         return Err(codec::fields_past_end(&[1, 4, 1], left - 1, a.at + 1));
     }
-    let x = codec::next_bits(a, OPTION_BITS);
-    let after = codec::advance(a, OPTION_BITS);
+    let x = a.next_bits(OPTION_BITS);
+    let after = a.advance(OPTION_BITS);
     if x / SELECTOR % 2 == 0 {
         return Ok((after, MacDataOption::LengthInd((x % 64) as u8)));
     }

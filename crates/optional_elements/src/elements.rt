@@ -61,7 +61,7 @@ fn no_element(a: Ahead) -> bool
     if a.left < FLAGS {
         return false;
     }
-    codec::next_bits(a, FLAGS) == 0
+    a.next_bits(FLAGS) == 0
 }
 
 // The elements that are ahead. Most headers have none: then the three flags are one word. The other case is called from here alone, so that
@@ -71,7 +71,7 @@ pub fn read_elements(s: &[u8], c: Cursor, a: Ahead) -> Result<(Ahead, Elements),
     ensures { Reads read_elements (within s.now c) a.at result }
 {
     if no_element(a) {
-        return Ok((codec::advance(a, FLAGS), no_elements()));
+        return Ok((a.advance(FLAGS), no_elements()));
     }
     read_each(codec::load(s, c, a.at))
 }

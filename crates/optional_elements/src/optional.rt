@@ -18,8 +18,8 @@ pub fn read_optional<T, F: FnOnce(Ahead) -> Result<(Ahead, T), Refusal>>(
     if a.left < 1 {
         return Err(codec::field_past_end(a.at));
     }
-    let b = codec::advance(a, 1);
-    if codec::next_bits(a, 1) == 0 {
+    let b = a.advance(1);
+    if a.next_bits(1) == 0 {
         return Ok((b, None));
     }
     let (after, element) = read(b)?;

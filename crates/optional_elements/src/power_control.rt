@@ -26,8 +26,8 @@ fn read_level(a: Ahead) -> Result<(Ahead, u8), Refusal>
     if a.left < LEVEL_BITS {
         return Err(codec::field_past_end(a.at));
     }
-    let level = codec::next_bits(a, LEVEL_BITS);
-    Ok((codec::advance(a, LEVEL_BITS), level as u8))
+    let level = a.next_bits(LEVEL_BITS);
+    Ok((a.advance(LEVEL_BITS), level as u8))
 }
 
 // The power control flag that is ahead, and the level where it is set; and what is ahead after them.

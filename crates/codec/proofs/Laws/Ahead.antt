@@ -1,11 +1,11 @@
 -- The laws of specs/Ahead.antt.
-use Rattle.std.specs.Prelude.{ℕ, zero, suc, ◌+◌, ◌-◌, ◌/◌, ◌%◌, ◌^◌, ◌≤◌, ◌<◌, ◌≡◌, refl, List, [], ◌∷◌, ◌++◌, Bool, length, take, drop, Result, Ok}
+use Rattle.std.specs.Prelude.{ℕ, zero, suc, ◌+◌, ◌-◌, ◌/◌, ◌%◌, ◌^◌, ◌≤◌, ◌<◌, ◌≡◌, refl, List, [], ◌∷◌, ◌++◌, Bool, length, take, drop, Result, Ok, Err, IfOk, IfErr}
 use Rattle.std.proofs.Common.{sym, ap, ◌∙◌, append_assoc, arith, add_assoc, add-zero, mod-lt, length-append, length-take, length-drop, take-append-drop, length-take-le, take-take, drop-drop, take_at, drop_at, pow_pos, shr_lt}
 use Rattle.std.proofs.Math.Nat.{mod-mod}
 use Rattle.std.proofs.Math.Pow.{mod-mod-pow}
 use Rattle.bits.specs.Bits.{bits_of_nat, Leading}
 use Rattle.bits.proofs.Laws.Values.{length-bits_of_nat, bits_of_nat-add, bits_of_nat-mod, bits-zero}
-use Rattle.codec.specs.Reader.{refused, field_at, Reader, parse}
+use Rattle.codec.specs.Reader.{Out, refused, next, field_at, Reader, parse}
 use Rattle.codec.proofs.Laws.Reader.{field-short, inside}
 use Rattle.codec.specs.Words.{Starts, short_at, total}
 use Rattle.codec.proofs.Laws.Words.{short}
@@ -16,6 +16,7 @@ use Rattle.codec.specs.Header.{Word, within}
 use Rattle.codec.proofs.Laws.Header.{read, ends, word-there, length_left}
 use Rattle.codec.specs.declared.Ahead.{Ahead}
 use Rattle.codec.specs.Ahead.{next_bits, Held, ReadsNext, Ready, Onward, advanced, ending_in, Reads, part_out}
+use Rattle.tetra_core.specs.Refusal.{number}
 use Rattle.tetra_core.specs.declared.refusal.Refusal.{Refusal}
 use Rattle.std.proofs.lemmas.Result.{IfOk-at_ok}
 
@@ -102,6 +103,12 @@ onward_then {m = m} {n} k x y l = record {
 pub next-read : {A : Type 0} {p : Reader A} {h : List Bool} {a : Ahead} {n o : ℕ} {x r : Result (Ahead × A) Refusal}
     → ReadsNext p a n x → Held h a → a.at ≡ o → x ≡ r → parse p (drop o h) o ≡ part_out r h
 next-read {p = p} {h} f e z g = ap (λ (o : ℕ). parse p (drop o h) o) (sym z) ∙ read (f.of h e) g
+
+-- a part that was read goes on with what follows it, and one that is refused ends there
+pub next-part : {A B : Type 0} (x : Result (Ahead × A) Refusal) (h : List Bool) (k : A → List Bool → ℕ → Out B)
+    → IfOk x (λ y. next (part_out x h) k ≡ k y.1 (drop y.0.at h) y.0.at) × IfErr x (λ r. next (part_out x h) k ≡ refused (number r.reason) r.offset)
+next-part (Ok y) h k = (refl, tt)
+next-part (Err r) h k = (tt, refl)
 
 -- a header that was read ends inside its window
 pub read-ends : {A : Type 0} {p : Reader A} {o : ℕ} {x : Result (Ahead × A) Refusal} {v : A} {b : Ahead} (s : List ℕ) (c : Cursor) → Good (length s) c

@@ -1,8 +1,9 @@
 // Clauses 21.4.2.1 and 21.4.2.3: the address type of a MAC-ACCESS or MAC-DATA, 2 bits.
-ghost use Rattle.std.specs.Prelude.{◌≡◌, ◌<◌};
+ghost use Rattle.std.specs.Prelude.{◌≡◌, ◌≤◌, ◌<◌};
 ghost use Rattle.tetra_core.specs.Address.{uplink_address_type};
-ghost use Rattle.tetra_fields.specs.UplinkAddress.{uplink_type_number, uplink_type_of, uplink_type_case};
+ghost use Rattle.tetra_fields.specs.UplinkAddress.{uplink_most, uplink_width, uplink_type_number, uplink_type_of, uplink_type_case};
 
+use crate::fields::uplink_address;
 use codec::cases;
 use codec::cases::NoCase;
 use tetra_core::address::UplinkAddress;
@@ -39,6 +40,13 @@ impl UplinkAddrType {
             UplinkAddrType::Ussi => 2,
             UplinkAddrType::Smi => 3,
         }
+    }
+
+    // The bits of an address of this type.
+    pub fn width(self) -> usize
+        ensures { (result ≡ uplink_width (uplink_type_number self)) × (0 < result) × (result ≤ uplink_most) }
+    {
+        uplink_address::uplink_width(self.into_raw())
     }
 
     // The type of an address.

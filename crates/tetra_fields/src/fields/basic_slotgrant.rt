@@ -33,12 +33,12 @@ pub fn read_slotgrant(a: Ahead) -> Result<(Ahead, BasicSlotgrant), Refusal>
     if a.left < SIZE {
         return Err(codec::fields_past_end(&[4, 4], a.left, a.at));
     }
-    let x = codec::next_bits(a, SIZE);
+    let x = a.next_bits(SIZE);
     let grant = BasicSlotgrant {
         capacity_allocation: BasicSlotgrantCapAlloc::from_raw(x / CAPACITY % 16),
         granting_delay: BasicSlotgrantGrantingDelay::from_raw(x % 16),
     };
-    Ok((codec::advance(a, SIZE), grant))
+    Ok((a.advance(SIZE), grant))
 }
 
 impl Header for BasicSlotgrant {

@@ -16,16 +16,10 @@ const LABEL_BITS: usize = 10;
 const NUMBER_BITS: usize = 24;
 
 // The bits of an address of this type.
-#[tactic(auto, unfolding(crate::specs::UplinkAddress::uplink_width))]
-pub fn uplink_width(t: UplinkAddrType) -> usize
-    ensures { (result ≡ uplink_width (uplink_type_number t)) × (0 < result) × (result ≤ uplink_most) }
+pub fn uplink_width(kind: u64) -> usize
+    ensures { (result ≡ uplink_width kind) × (0 < result) × (result ≤ uplink_most) }
 {
-    match t {
-        UplinkAddrType::Ssi => NUMBER_BITS,
-        UplinkAddrType::EventLabel => LABEL_BITS,
-        UplinkAddrType::Ussi => NUMBER_BITS,
-        UplinkAddrType::Smi => NUMBER_BITS,
-    }
+    if kind == 1 { LABEL_BITS } else { NUMBER_BITS }
 }
 
 // The address of this type with the number v.
@@ -50,12 +44,12 @@ pub(crate) fn read_uplink_address(
     requires { Ready a uplink_most }
     ensures { ReadsNext (read_uplink_address (uplink_type_number t)) a uplink_most result }
 {
-    let n = uplink_width(t);
+    let n = t.width();
     if a.left < n {
         return Err(codec::field_past_end(a.at));
     }
-    let v = codec::next_bits(a, n);
-    Ok((codec::advance(a, n), uplink_of(t, v)))
+    let v = a.next_bits(n);
+    Ok((a.advance(n), uplink_of(t, v)))
 }
 
 // The number of an address.
@@ -75,7 +69,7 @@ pub fn uplink_address_refusal(a: UplinkAddress) -> Result<(), Reason>
     ensures { refused_by result ≡ uplink_address_refusal a }
 {
     let v = uplink_number(a);
-    let n = uplink_width(UplinkAddrType::of(a));
+    let n = UplinkAddrType::of(a).width();
     if v >> n != 0 {
         return Err(Reason::ValueTooWide);
     }

@@ -40,7 +40,7 @@ fn cut_off(a: Ahead, w: usize) -> Refusal
     if a.left < w {
         return codec::field_past_end(a.at);
     }
-    if codec::next_bits(a, w) != 0 {
+    if a.next_bits(w) != 0 {
         return wrong_type(a);
     }
     codec::fields_past_end(&[1, 1, 2], a.left - w, a.at + w)
@@ -65,12 +65,12 @@ pub fn read_uplink_head(a: Ahead, w: usize) -> Result<(Ahead, UplinkHead), Refus
     if a.left < n {
         return Err(cut_off(a, w));
     }
-    let x = codec::next_bits(a, n);
+    let x = a.next_bits(n);
     if x / TYPE != 0 {
         return Err(wrong_type(a));
     }
     let t = UplinkAddrType::from_raw(x);
-    let (after, addr) = uplink_address::read_uplink_address(codec::advance(a, n), t)?;
+    let (after, addr) = uplink_address::read_uplink_address(a.advance(n), t)?;
     let head = UplinkHead {
         fill_bits: x / FILL % 2 != 0,
         encrypted: x / ENCRYPTED % 2 != 0,
@@ -84,7 +84,7 @@ pub fn uplink_size(w: usize, a: UplinkAddress) -> usize
     requires { w ≤ 2 }
     ensures { (result ≡ uplink_size w a) × (result ≤ head_most) }
 {
-    w + (BEHIND_TYPE + uplink_address::uplink_width(UplinkAddrType::of(a)))
+    w + (BEHIND_TYPE + UplinkAddrType::of(a).width())
 }
 
 // Why a header is not written whose other fields may be refused by option, if so.
@@ -109,5 +109,5 @@ pub fn uplink_word(h: UplinkHead) -> u64
     let t = UplinkAddrType::of(addr);
     let kind = t.into_raw();
     let head = codec::bit(h.fill_bits) * FILL + (codec::bit(h.encrypted) * ENCRYPTED + kind);
-    (head << uplink_address::uplink_width(t)) + uplink_address::uplink_number(addr)
+    (head << t.width()) + uplink_address::uplink_number(addr)
 }

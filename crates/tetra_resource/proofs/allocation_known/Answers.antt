@@ -1,4 +1,3 @@
-use borrow.Author.Rules.{rules}
 use borrow.Author.Tests.{eq-eqb, ne_eqb}
 use Rattle.tetra_resource.specs.MacResource.{allocation_known}
 use Rattle.tetra_resource.proofs.allocation_known.Goals as goal
@@ -6,10 +5,6 @@ use Rattle.tetra_resource.proofs.allocation_known.Goals as goal
 pub returns-then-words-eq0 : goal.returns-then-words-eq0
 unfolding allocation_known
 returns-then-words-eq0 c = rw (eq-eqb _ 0 c.if-words-eq0.true)
-
-pub channel_allocation_known-requires : goal.channel_allocation_known-requires
-unfolding allocation_known
-channel_allocation_known-requires c = search rules
 
 pub returns : goal.returns
 unfolding allocation_known

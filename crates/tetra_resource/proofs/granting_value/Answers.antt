@@ -1,4 +1,3 @@
-use borrow.Author.Rules.{rules}
 use borrow.Author.Tests.{eq-eqb, ne_eqb}
 use Rattle.tetra_resource.specs.MacResource.{granting_value}
 use Rattle.tetra_resource.proofs.granting_value.Goals as goal
@@ -6,10 +5,6 @@ use Rattle.tetra_resource.proofs.granting_value.Goals as goal
 pub returns-then-words-eq0 : goal.returns-then-words-eq0
 unfolding granting_value
 returns-then-words-eq0 c = rw (eq-eqb _ 0 c.if-words-eq0.true)
-
-pub slotgrant_value-requires : goal.slotgrant_value-requires
-unfolding granting_value
-slotgrant_value-requires c = search rules
 
 pub returns : goal.returns
 unfolding granting_value

@@ -1,5 +1,4 @@
 use mathlib.Core.Path.{sym, ◌∙◌}
-use borrow.Author.Rules.{rules}
 use borrow.Author.Tests.{le-leb, lt-leb}
 use Rattle.tetra_resource.specs.MacResource.{mac_resource_known}
 use Rattle.tetra_resource.proofs.mac_resource_known.Goals as goal
@@ -27,18 +26,6 @@ pub returns-then-words-lt-WORDS : goal.returns-then-words-lt-WORDS
 unfolding mac_resource_known
 returns-then-words-lt-WORDS c = rw (lt-leb 25 _ c.if-words-lt-WORDS.true)
 
-pub address_known-requires : goal.address_known-requires
-unfolding mac_resource_known
-address_known-requires c = search rules
-
 pub returns-then-not-address_known : goal.returns-then-not-address_known
 unfolding mac_resource_known
 returns-then-not-address_known c = rw (le-leb 25 _ c.if-words-lt-WORDS.false, sym c.address_known.ensures ∙ c.if-not-address_known.true)
-
-pub granting_known-requires : goal.granting_known-requires
-unfolding mac_resource_known
-granting_known-requires c = search rules
-
-pub allocation_known-requires : goal.allocation_known-requires
-unfolding mac_resource_known
-allocation_known-requires c = search rules

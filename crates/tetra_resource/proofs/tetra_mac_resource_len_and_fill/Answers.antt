@@ -1,7 +1,5 @@
 use mathlib.Core.Bool.{not}
 use mathlib.Core.Path.{sym, ap, ◌∙◌}
-use native.Mathlib.Omega.{arith}
-use lib.ListN.{length-set}
 use Rattle.tetra_mac.specs.Laws.Reply.{count_no_room, count_unknown, count-replied}
 use Rattle.tetra_resource.specs.Laws.MacResource.{mac_resource_long}
 use Rattle.tetra_resource.proofs.tetra_mac_resource_len_and_fill.Goals as goal
@@ -22,6 +20,3 @@ returns-then-out-lt3 c = count_no_room _ _ _ _ c.if-out-lt3.true
 
 pub returns-then-not-mac_resource_known : goal.returns-then-not-mac_resource_known
 returns-then-not-mac_resource_known c = count_unknown _ _ _ _ c.mac_resource_known.ensures (ap not c.if-not-mac_resource_known.true)
-
-pub bounds-out-1 : goal.bounds-out-1
-bounds-out-1 c = simp length-set (omega arith)

@@ -1,15 +1,6 @@
-use borrow.Author.Rules.{rules}
 use Rattle.codec.proofs.Laws.Cases.{last_case}
 use Rattle.tetra_mac.specs.MacAccess.{options, option_value}
 use Rattle.tetra_mac.proofs.access.option_value.Goals as goal
-
-pub number8-requires : goal.number8-requires
-unfolding option_value
-number8-requires c = search rules
-
-pub from_raw-requires : goal.from_raw-requires
-unfolding option_value
-from_raw-requires c = search rules
 
 pub returns-in-0 : goal.returns-in-0
 unfolding option_value

@@ -1,59 +1,6 @@
-use borrow.Author.Rules.{rules}
 use Rattle.codec.proofs.Laws.Cases.{last_case}
 use Rattle.tetra_mac.specs.Address.{addresses, address_value}
 use Rattle.tetra_mac.proofs.address.address_value.Goals as goal
-
-pub ssi_of_kind-requires : goal.ssi_of_kind-requires
-unfolding address_value
-ssi_of_kind-requires c = search rules
-
-pub number32-requires : goal.number32-requires
-unfolding address_value
-number32-requires c = search rules
-
-pub number16-requires : goal.number16-requires
-unfolding address_value
-number16-requires c = search rules
-
-pub number32-requires-in-3 : goal.number32-requires-in-3
-unfolding address_value
-number32-requires-in-3 c = search rules
-
-pub number32-requires-in-4 : goal.number32-requires-in-4
-unfolding address_value
-number32-requires-in-4 c = search rules
-
-pub ssi_of_kind-requires-in-5 : goal.ssi_of_kind-requires-in-5
-unfolding address_value
-ssi_of_kind-requires-in-5 c = search rules
-
-pub number32-requires-in-5 : goal.number32-requires-in-5
-unfolding address_value
-number32-requires-in-5 c = search rules
-
-pub number16-requires-in-5 : goal.number16-requires-in-5
-unfolding address_value
-number16-requires-in-5 c = search rules
-
-pub ssi_of_kind-requires-in-6 : goal.ssi_of_kind-requires-in-6
-unfolding address_value
-ssi_of_kind-requires-in-6 c = search rules
-
-pub number32-requires-in-6 : goal.number32-requires-in-6
-unfolding address_value
-number32-requires-in-6 c = search rules
-
-pub number8-requires : goal.number8-requires
-unfolding address_value
-number8-requires c = search rules
-
-pub number32-requires-in_default : goal.number32-requires-in_default
-unfolding address_value
-number32-requires-in_default c = search rules
-
-pub number16-requires-in_default : goal.number16-requires-in_default
-unfolding address_value
-number16-requires-in_default c = search rules
 
 pub returns-in-0 : goal.returns-in-0
 unfolding address_value

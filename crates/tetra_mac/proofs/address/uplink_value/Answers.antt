@@ -1,27 +1,6 @@
-use borrow.Author.Rules.{rules}
 use Rattle.codec.proofs.Laws.Cases.{last_case}
 use Rattle.tetra_mac.specs.Address.{uplinks, uplink_value}
 use Rattle.tetra_mac.proofs.address.uplink_value.Goals as goal
-
-pub ssi_of_kind-requires : goal.ssi_of_kind-requires
-unfolding uplink_value
-ssi_of_kind-requires c = search rules
-
-pub number32-requires : goal.number32-requires
-unfolding uplink_value
-number32-requires c = search rules
-
-pub number16-requires : goal.number16-requires
-unfolding uplink_value
-number16-requires c = search rules
-
-pub number32-requires-in-2 : goal.number32-requires-in-2
-unfolding uplink_value
-number32-requires-in-2 c = search rules
-
-pub number32-requires-in_default : goal.number32-requires-in_default
-unfolding uplink_value
-number32-requires-in_default c = search rules
 
 pub returns-in-0 : goal.returns-in-0
 unfolding uplink_value

@@ -1,11 +1,6 @@
-use borrow.Author.Rules.{rules}
 use Rattle.codec.proofs.Laws.Cases.{last_case}
 use Rattle.tetra_mac.specs.AccessAssign.{dl_usages, dl_value}
 use Rattle.tetra_mac.proofs.assign.dl_value.Goals as goal
-
-pub number8-requires : goal.number8-requires
-unfolding dl_value
-number8-requires c = search rules
 
 pub returns-in-0 : goal.returns-in-0
 unfolding dl_value

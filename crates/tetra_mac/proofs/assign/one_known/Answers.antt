@@ -1,11 +1,6 @@
-use borrow.Author.Rules.{rules}
 use Rattle.codec.proofs.Laws.Cases.{last_case}
 use Rattle.tetra_mac.specs.AccessAssign.{one_knowns, one_known}
 use Rattle.tetra_mac.proofs.assign.one_known.Goals as goal
-
-pub field_known-requires : goal.field_known-requires
-unfolding one_known
-field_known-requires c = search rules
 
 pub returns-in-0 : goal.returns-in-0
 unfolding one_known

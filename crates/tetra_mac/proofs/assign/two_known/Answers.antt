@@ -1,4 +1,3 @@
-use borrow.Author.Rules.{rules}
 use borrow.Author.Tests.{eq-eqb, ne_eqb}
 use Rattle.tetra_mac.specs.AccessAssign.{two_known}
 use Rattle.tetra_mac.proofs.assign.two_known.Goals as goal
@@ -6,10 +5,6 @@ use Rattle.tetra_mac.proofs.assign.two_known.Goals as goal
 pub returns-then-header-eq3 : goal.returns-then-header-eq3
 unfolding two_known
 returns-then-header-eq3 c = rw (eq-eqb _ _ c.if-header-eq3.true)
-
-pub field_known-requires : goal.field_known-requires
-unfolding two_known
-field_known-requires c = search rules
 
 pub returns : goal.returns
 unfolding two_known

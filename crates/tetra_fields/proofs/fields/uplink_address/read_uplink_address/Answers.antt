@@ -6,18 +6,18 @@ use Rattle.tetra_fields.proofs.fields.uplink_address.read_uplink_address.Goals a
 pub returns-then-a-n : goal.returns-then-a-n
 unfolding read_uplink_address
 returns-then-a-n c = record {
-  of = λ h e. record { means = rw (c.field_past_end.ensures, ← c.uplink_width-n.ensures.0, ahead_field-short c.uplink_width-n.result e c.if-a-n.true) };
+  of = λ h e. record { means = rw (c.field_past_end.ensures, ← c.width-n.ensures.0, ahead_field-short c.width-n.result e c.if-a-n.true) };
   onward = tt;
 }
 
 pub uplink_of-requires : goal.uplink_of-requires
-uplink_of-requires c = rw (← c.uplink_width-n.ensures.0) c.next_bits-v.ensures.small
+uplink_of-requires c = rw (← c.width-n.ensures.0) c.next_bits-v.ensures.small
 
 pub returns : goal.returns
 unfolding read_uplink_address
 returns c =
     let i = c.if-a-n.false in
     record {
-      of = λ h e. record { means = rw (c.uplink_of.ensures, c.advance.ensures, ← c.uplink_width-n.ensures.0, alone (c.next_bits-v.ensures.word h e i)) };
-      onward = rw c.advance.ensures (onward c.uplink_width-n.result uplink_most c.uplink_width-n.ensures.2 i);
+      of = λ h e. record { means = rw (c.uplink_of.ensures, c.advance.ensures, ← c.width-n.ensures.0, alone (c.next_bits-v.ensures.word h e i)) };
+      onward = rw c.advance.ensures (onward c.width-n.result uplink_most c.width-n.ensures.2 i);
     }

@@ -25,7 +25,7 @@ returns c =
       c.bit.ensures.0,
       c.bit-2.ensures.0,
       c.into_raw-kind.ensures.0 ∙ c.of-t.ensures,
-      c.uplink_width.ensures.0 ∙ ap uplink_width c.of-t.ensures,
+      c.width.ensures.0 ∙ ap uplink_width c.of-t.ensures,
       f.0,
     )
     (w, f.1)

@@ -1,5 +1,4 @@
 use mathlib.Core.Path.{sym, ◌∙◌}
-use borrow.Author.Rules.{rules}
 use borrow.Author.Tests.{le-leb, lt-leb}
 use Rattle.tetra_mac.specs.AccessAssign.{access_assign_known}
 use Rattle.tetra_mac.proofs.assign.AccessAssignRecordWORDS.known.Goals as goal
@@ -17,14 +16,6 @@ pub returns-then-words-lt-WORDS : goal.returns-then-words-lt-WORDS
 unfolding access_assign_known
 returns-then-words-lt-WORDS c = rw (lt-leb _ _ c.if-words-lt-WORDS.true)
 
-pub one_known-requires : goal.one_known-requires
-unfolding access_assign_known
-one_known-requires c = search rules
-
 pub returns-then-not-one_known : goal.returns-then-not-one_known
 unfolding access_assign_known
 returns-then-not-one_known c = rw (le-leb _ _ c.if-words-lt-WORDS.false, sym c.one_known.ensures ∙ c.if-not-one_known.true)
-
-pub two_known-requires : goal.two_known-requires
-unfolding access_assign_known
-two_known-requires c = search rules

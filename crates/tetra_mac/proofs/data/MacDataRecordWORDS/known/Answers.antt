@@ -1,13 +1,8 @@
 use mathlib.Core.Path.{sym, ◌∙◌}
 use native.Mathlib.Omega.{arith}
-use borrow.Author.Rules.{rules}
 use Rattle.tetra_mac.specs.MacData.{mac_data_known}
 use Rattle.tetra_mac.specs.Laws.MacAccess.{mac_access_long}
 use Rattle.tetra_mac.proofs.data.MacDataRecordWORDS.known.Goals as goal
-
-pub known-requires : goal.known-requires
-unfolding mac_data_known
-known-requires c = search rules
 
 pub returns-then-not-known : goal.returns-then-not-known
 unfolding mac_data_known

@@ -1,7 +1,7 @@
 use mathlib.Core.Path.{refl}
 use native.Mathlib.Nat.{mod-lt}
 use lib.Pow.{pow_pos}
-use Rattle.codec.proofs.next_bits.Goals as goal
+use Rattle.codec.proofs.Ahead.next_bits.Goals as goal
 
 pub returns : goal.returns
 returns c =
