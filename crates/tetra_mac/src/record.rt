@@ -136,19 +136,19 @@ pub(crate) fn write<const N: usize, T: Record<N>>(
 pub fn number8(v: u64) -> u8
     ensures { result ≡ min v 255 }
 {
-    if v < 255 { v as u8 } else { 255 }
+    v.min(255) as u8
 }
 
 // The same for a field of type u16.
 pub(crate) fn number16(v: u64) -> u16
     ensures { result ≡ min v 65535 }
 {
-    if v < 65535 { v as u16 } else { 65535 }
+    v.min(65535) as u16
 }
 
 // The same for a field of type u32.
 pub(crate) fn number32(v: u64) -> u32
     ensures { result ≡ min v 4294967295 }
 {
-    if v < 4294967295 { v as u32 } else { 4294967295 }
+    v.min(4294967295) as u32
 }
