@@ -18,13 +18,17 @@ length_field bits = field length_at 6 bits
 abbrev pub address_type : List Bool → ℕ
 address_type bits = field address_type_at 3 bits
 
+-- a PDU that j refuses at the offset o, so that it has no end
+abbrev pub unsized : (j o : ℕ) → Extent
+unsized j o = Extent.Unsized (record { reason = reason j; offset = o })
+
 -- "length 0 or 1: refused 8, end; otherwise the end is p + 8 × length; if that passes N by under 8 bits it is N; by 8 or more, refused 8,
 -- end": where `left` bits are left to N, for a length of l octets whose field begins at bit o
 unfoldable pub counted_extent : (left l o : ℕ) → Extent
 counted_extent left l o =
-    cond (ltb l 2) (Extent.Unsized (reason 8) o)
+    cond (ltb l 2) (unsized 8 o)
     (cond (leb (8 * l) left) (Extent.Sized (8 * l))
-    (cond (ltb (8 * l) (left + 8)) (Extent.Sized left) (Extent.Unsized (reason 8) o)))
+    (cond (ltb (8 * l) (left + 8)) (Extent.Sized left) (unsized 8 o)))
 
 -- "length 62 or 63: the PDU runs to N"; "the block's 4, 8 and 12 give 0, 7 and the header's end"
 unfoldable pub resource_extent : (left l : ℕ) → Extent
@@ -34,7 +38,7 @@ resource_extent left l = cond (leb second_slot_stolen l) (Extent.Sized left) (co
 unfoldable pub extent_of : (left type l address : ℕ) → Extent
 extent_of left type l address =
     cond (ltb left least_bits) Extent.End
-    (cond (eqb type 0) (cond (eqb address 0) (Extent.Null l) (resource_extent left l)) (Extent.Unsized (reason 4) 0))
+    (cond (eqb type 0) (cond (eqb address 0) (Extent.Null l) (resource_extent left l)) (unsized 4 0))
 
 -- of the bits from p to N
 unfoldable pub extent : List Bool → Extent

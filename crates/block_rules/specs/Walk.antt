@@ -64,7 +64,7 @@ module _ {H : Type 0} where
   module _ (R : HeaderReader H) where
     unfoldable pub pdu_of : List Bool → Extent → Option (Pdu H)
     pdu_of bits Extent.End = None
-    pdu_of bits (Extent.Unsized r o) = Some (Pdu.unsized (number r) o)
+    pdu_of bits (Extent.Unsized r) = Some (Pdu.unsized (number r.reason) r.offset)
     pdu_of bits (Extent.Null l) = Some (Pdu.null l)
     pdu_of bits (Extent.Sized s) = Some (Pdu.sized s (read_pdu R bits s))
 

@@ -9,7 +9,7 @@ pub mod piece;
 ghost use Rattle.std.specs.Prelude.{◌≡◌, ◌+◌, ◌≤◌, ◌<◌, ltb, length};
 ghost use Rattle.bits.specs.Bits.{digit};
 ghost use Rattle.tetra_core.specs.Refusal.{refused_by, unless};
-ghost use Rattle.tetra_core.specs.declared.refusal.Reason.TheVariants.{ReadPastEnd};
+ghost use Rattle.tetra_core.specs.declared.refusal.Reason.TheVariants.{ReadPastEnd, WrongPduType};
 ghost use Rattle.tetra_core.specs.BitBuffer.{moved};
 ghost use Rattle.tetra_core.specs.Laws.Windows.{Good};
 ghost use Rattle.codec.specs.Words.{short_at};
@@ -48,8 +48,8 @@ impl Ahead {
         Ahead {
             at: self.at + n,
             left: self.left - n,
-            word: self.word,
             used: self.used + n,
+            ..self
         }
     }
 
@@ -57,12 +57,7 @@ impl Ahead {
     pub fn ending_in(self, left: usize) -> Ahead
         ensures { result ≡ ending_in self left }
     {
-        Ahead {
-            at: self.at,
-            left,
-            word: self.word,
-            used: self.used,
-        }
+        Ahead { left, ..self }
     }
 }
 
@@ -94,6 +89,16 @@ pub fn field_past_end(o: usize) -> Refusal
 {
     Refusal {
         reason: Reason::ReadPastEnd,
+        offset: o,
+    }
+}
+
+// The refusal of a header that begins at the offset o, for its PDU type.
+pub fn wrong_type(o: usize) -> Refusal
+    ensures { result ≡ record { reason = WrongPduType; offset = o } }
+{
+    Refusal {
+        reason: Reason::WrongPduType,
         offset: o,
     }
 }
@@ -148,9 +153,8 @@ pub fn moved_by(c: Cursor, n: usize) -> Cursor
     ensures { result ≡ moved c n }
 {
     Cursor {
-        start: c.start,
         pos: c.pos + n,
-        end: c.end,
+        ..c
     }
 }
 

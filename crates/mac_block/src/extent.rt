@@ -10,7 +10,7 @@ use codec::Ahead;
 use mac_resource::mac_resource::MAC_RESOURCE_LENGTH_2ND_SLOT_STOLEN;
 use tetra_core::quantity;
 use tetra_core::quantity::Octets;
-use tetra_core::refusal::Reason;
+use tetra_core::refusal::{Reason, Refusal};
 
 // The least length in octets that a PDU can have.
 const LEAST_OCTETS: u8 = 2;
@@ -27,8 +27,12 @@ const BEHIND_LENGTH: u64 = 3;
 fn counted_extent(left: usize, length: Octets, offset: usize) -> Extent
     ensures { result ≡ counted_extent left length.0 offset }
 {
+    let refusal = Refusal {
+        reason: Reason::Length,
+        offset,
+    };
     if length.0 < LEAST_OCTETS {
-        return Extent::Unsized(Reason::Length, offset);
+        return Extent::Unsized(refusal);
     }
     let bits = quantity::octets_to_bits(length).0 as usize;
     if bits <= left {
@@ -37,7 +41,7 @@ fn counted_extent(left: usize, length: Octets, offset: usize) -> Extent
     if bits - left < 8 {
         return Extent::Sized(left);
     }
-    Extent::Unsized(Reason::Length, offset)
+    Extent::Unsized(refusal)
 }
 
 // What begins where left bits are left to the block's end.
@@ -48,7 +52,7 @@ fn extent_of(left: usize, pdu_type: u8, length: u8, address_type: u8) -> Extent
         return Extent::End;
     }
     if pdu_type != 0 {
-        return Extent::Unsized(Reason::WrongPduType, 0);
+        return Extent::Unsized(codec::wrong_type(0));
     }
     if address_type == 0 {
         return Extent::Null(length);

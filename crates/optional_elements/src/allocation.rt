@@ -9,8 +9,8 @@ ghost use Rattle.optional_elements.specs.Allocation.{allocation_most, read_alloc
 use crate::optional;
 use channel_allocation::channel_allocation as element;
 use channel_allocation::channel_allocation::ChanAllocElement;
+use codec::Ahead;
 use codec::piece::Piece;
-use codec::{Ahead, piece};
 use tetra_core::refusal::{Reason, Refusal};
 
 // The channel allocation flag that is ahead, and the element where it is set; and what is ahead after them.
@@ -25,20 +25,14 @@ pub fn read_allocation(a: Ahead) -> Result<(Ahead, Option<ChanAllocElement>), Re
 pub fn allocation_refusal(a: Option<ChanAllocElement>) -> Result<(), Reason>
     ensures { refused_by result ≡ allocation_refusal a }
 {
-    match a {
-        None => Ok(()),
-        Some(e) => element::channel_allocation_refusal(e),
-    }
+    optional::refusal(a)
 }
 
 // The bits of the flag with its element.
 pub fn allocation_len(a: Option<ChanAllocElement>) -> usize
     ensures { (result ≡ allocation_len a) × (result ≤ allocation_most) }
 {
-    match a {
-        None => 1,
-        Some(e) => 1 + element::allocation_len(e),
-    }
+    optional::len(a)
 }
 
 // Why they are not counted, if so.
@@ -55,14 +49,5 @@ pub fn allocation_piece(a: Option<ChanAllocElement>) -> Piece
     requires { allocation_refusal a ≡ 0 }
     ensures { Holds (row_bits (flag_row a) ++ allocation_bits a) (allocation_len a) result }
 {
-    match a {
-        None => Piece { value: 0, bits: 1 },
-        Some(e) => piece::joined(
-            Piece { value: 1, bits: 1 },
-            Piece {
-                value: element::channel_allocation_word(e),
-                bits: element::allocation_len(e),
-            },
-        ),
-    }
+    optional::flagged(a)
 }

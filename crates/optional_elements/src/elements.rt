@@ -10,7 +10,7 @@ ghost use Rattle.optional_elements.specs.Elements.{no_elements, flags_len, eleme
 
 use crate::grant_and_allocation::GrantAndAllocation;
 use crate::{grant_and_allocation, power_control};
-use codec::encoded::Encoded;
+use codec::encoded::{Encode, Encoded};
 use codec::piece::Piece;
 use codec::{Ahead, encoded, piece};
 use tetra_core::bitbuffer::Cursor;
@@ -116,6 +116,26 @@ fn elements_piece(e: Elements) -> Piece
     piece::joined(power_control::power_piece(power), behind)
 }
 
+impl Encode for Elements {
+    ghost refused = { elements_refusal };
+
+    ghost size = { elements_len };
+
+    ghost bits = { elements_bits };
+
+    fn refusal(self) -> Result<(), Reason> {
+        elements_refusal(self)
+    }
+
+    fn len(self) -> usize {
+        elements_len(self)
+    }
+
+    fn word(self) -> u64 {
+        elements_piece(self).value
+    }
+}
+
 // The elements on their way out.
 pub fn elements_encoded(e: Elements) -> Encoded
     ensures { EncodesOne (elements_refusal e) (elements_len e) (elements_bits e) result }
@@ -129,11 +149,5 @@ pub fn elements_encoded(e: Elements) -> Encoded
             },
         };
     }
-    match elements_refusal(e) {
-        Ok(()) => Encoded {
-            judged: Ok(()),
-            piece: elements_piece(e),
-        },
-        Err(reason) => encoded::refused(reason, elements_len(e)),
-    }
+    encoded::of(e)
 }

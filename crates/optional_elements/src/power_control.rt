@@ -38,7 +38,8 @@ pub fn read_power(a: Ahead) -> Result<(Ahead, Option<u8>), Refusal>
     optional::read_optional(a, read_level)
 }
 
-// Why it is not written, if so.
+// Why it is not written, if so. A level is a number and no type of its own that is encoded by itself: so refusal, length and piece are
+// written here, and not by those of `optional`.
 pub fn power_refusal(p: Option<u8>) -> Result<(), Reason>
     ensures { refused_by result ≡ power_refusal p }
 {

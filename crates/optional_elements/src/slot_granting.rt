@@ -13,13 +13,6 @@ use tetra_core::refusal::{Reason, Refusal};
 use tetra_fields::fields::basic_slotgrant;
 use tetra_fields::fields::basic_slotgrant::BasicSlotgrant;
 
-// The bits of the element, and with its flag, which is worth FLAG before it.
-const GRANT_BITS: usize = 8;
-
-const GRANTING_BITS: usize = 1 + GRANT_BITS;
-
-const FLAG: u64 = 1 << 8;
-
 // The slot granting flag that is ahead, and the element where it is set; and what is ahead after them.
 pub fn read_granting(a: Ahead) -> Result<(Ahead, Option<BasicSlotgrant>), Refusal>
     requires { Ready a granting_most }
@@ -32,31 +25,19 @@ pub fn read_granting(a: Ahead) -> Result<(Ahead, Option<BasicSlotgrant>), Refusa
 pub fn granting_refusal(g: Option<BasicSlotgrant>) -> Result<(), Reason>
     ensures { refused_by result ≡ granting_refusal g }
 {
-    match g {
-        None => Ok(()),
-        Some(e) => basic_slotgrant::slotgrant_refusal(e),
-    }
+    optional::refusal(g)
 }
 
 // The bits of the flag with its element.
 pub fn granting_len(g: Option<BasicSlotgrant>) -> usize
     ensures { (result ≡ granting_len g) × (result ≤ granting_most) }
 {
-    match g {
-        None => 1,
-        Some(_) => GRANTING_BITS,
-    }
+    optional::len(g)
 }
 
 pub fn granting_piece(g: Option<BasicSlotgrant>) -> Piece
     requires { granting_refusal g ≡ 0 }
     ensures { Holds (row_bits (granting_row g)) (granting_len g) result }
 {
-    match g {
-        None => Piece { value: 0, bits: 1 },
-        Some(e) => Piece {
-            value: 1 * FLAG + basic_slotgrant::slotgrant_word(e),
-            bits: GRANTING_BITS,
-        },
-    }
+    optional::flagged(g)
 }

@@ -35,7 +35,7 @@ impl fmt::Display for Difference {
             Difference::Status(answer, class, stop) => {
                 let (number, bit) = match answer {
                     Ok(()) => (0, 0),
-                    Err(Stop::Refused { number, bit }) => (*number, *bit),
+                    Err(Stop::Refused(r)) => (r.reason.number(), r.offset),
                     Err(Stop::Malformed) => (255, 0),
                 };
                 write!(f, "status {number} at bit {bit}, recorded as {class}")?;
@@ -52,14 +52,11 @@ impl fmt::Display for Difference {
 
 // The first place at which two lists differ.
 pub(crate) fn first_unequal<T: PartialEq + Copy>(ours: &[T], theirs: &[T]) -> Option<Unequal<T>> {
-    for (place, (a, b)) in ours.iter().zip(theirs).enumerate() {
-        if a != b {
-            return Some(Unequal {
-                place,
-                ours: *a,
-                theirs: *b,
-            });
-        }
-    }
-    None
+    let mut pairs = ours.iter().zip(theirs).enumerate();
+    let (place, (a, b)) = pairs.find(|(_, (a, b))| a != b)?;
+    Some(Unequal {
+        place,
+        ours: *a,
+        theirs: *b,
+    })
 }

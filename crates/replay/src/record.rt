@@ -5,13 +5,14 @@ ghost use Rattle.replay.specs.declared.record.TheConstants.{MOST_BYTES};
 use crate::difference::{Difference, first_unequal};
 use crate::list::{Malformed, Reader};
 use arrayvec::ArrayVec;
-use replay_calls::answers::{MOST_WORDS, Stop, UNTOUCHED, Words};
+use replay_calls::answers::{MOST_WORDS, Stop, Words, reason_of};
 use replay_calls::block_calls::BlockCall;
 use replay_calls::calls::Call;
 use replay_calls::given::Given;
 use replay_calls::header_calls::BitsCall;
 use std::fmt;
 use tetra_core::bitbuffer::Cursor;
+use tetra_core::refusal::Reason;
 
 const MOST_BYTES: usize = 128;
 
@@ -20,7 +21,7 @@ const MOST_WINDOWS: u64 = 65536;
 // Beyond this bit windows behind the first end no further: they are none.
 const FAR: usize = 1 << 40;
 
-// What the original did, and so what this port has to do. Refusals are numbered 1 to 14.
+// What the original did, and so what this port has to do. The list has this port's refusals by their numbers.
 #[derive(Clone, Copy)]
 pub(crate) enum Class {
     Completed,
@@ -29,10 +30,10 @@ pub(crate) enum Class {
     CutOff,
     // Stopped, where a listed difference has this port complete.
     ListedCompleted,
-    // Completed, where a listed difference has this port refuse by the number.
-    ListedRefused(u64),
-    // Refused, and this port by the number.
-    RefusedBy(u64),
+    // Completed, where a listed difference has this port refuse for the reason.
+    ListedRefused(Reason),
+    // Refused, and this port for the reason.
+    RefusedBy(Reason),
 }
 
 impl TryFrom<u64> for Class {
@@ -44,8 +45,8 @@ impl TryFrom<u64> for Class {
             1 => Ok(Class::Refused),
             2 => Ok(Class::CutOff),
             3 => Ok(Class::ListedCompleted),
-            17..=30 => Ok(Class::ListedRefused(class - 16)),
-            33..=46 => Ok(Class::RefusedBy(class - 32)),
+            16..=31 => Ok(Class::ListedRefused(reason_of(class - 16).ok_or(Malformed)?)),
+            32..=47 => Ok(Class::RefusedBy(reason_of(class - 32).ok_or(Malformed)?)),
             _ => Err(Malformed),
         }
     }
@@ -56,9 +57,9 @@ impl fmt::Display for Class {
         match self {
             Class::Completed => write!(f, "completed"),
             Class::Refused => write!(f, "refused"),
-            Class::CutOff => write!(f, "1"),
+            Class::CutOff => write!(f, "{}", Reason::ReadPastEnd.number()),
             Class::ListedCompleted | Class::ListedRefused(_) => write!(f, "a listed difference"),
-            Class::RefusedBy(number) => write!(f, "{number}"),
+            Class::RefusedBy(reason) => write!(f, "{}", reason.number()),
         }
     }
 }
@@ -67,15 +68,13 @@ impl Class {
     // Whether this port has to answer so; stop is the bit at which the original was cut off.
     fn allows(self, stop: Option<u64>, answer: Result<(), Stop>) -> bool {
         match (self, answer) {
-            // A refusal's number is 1 at least: what has number 0 completed, whatever its bit.
-            (
-                Class::Completed | Class::ListedCompleted,
-                Ok(()) | Err(Stop::Refused { number: 0, .. }),
-            ) => true,
-            (Class::Refused, Err(Stop::Refused { number: 1..=14, .. })) => true,
-            (Class::CutOff, Err(Stop::Refused { number: 1, bit })) => stop == Some(bit),
-            (Class::ListedRefused(n) | Class::RefusedBy(n), Err(Stop::Refused { number, .. })) => {
-                u64::from(number) == n
+            (Class::Completed | Class::ListedCompleted, Ok(())) => true,
+            (Class::Refused, Err(Stop::Refused(_))) => true,
+            (Class::CutOff, Err(Stop::Refused(r))) => {
+                r.reason == Reason::ReadPastEnd && stop == Some(r.offset as u64)
+            }
+            (Class::ListedRefused(reason) | Class::RefusedBy(reason), Err(Stop::Refused(r))) => {
+                r.reason == reason
             }
             _ => false,
         }
@@ -94,8 +93,8 @@ pub(crate) struct Record<'a> {
     // The words and the bytes that the call has to leave.
     words: Words,
     left: &'a [u8],
-    // Where the original was cut off, the bits from pos at which it was, in pairs: for how many windows, and the bit.
-    stops: Option<Words>,
+    // The bits from pos at which the original was cut off, in pairs: for how many windows, and the bit. None where it was not cut off.
+    stops: ArrayVec<u64, MOST_WORDS>,
     ghost short: { length bytes.now ≤ MOST_BYTES },
 }
 
@@ -144,7 +143,7 @@ impl<'a> TryFrom<&'a [u8]> for Record<'a> {
             numbers: list.numbers()?,
             words: Words::untouched(),
             left: bytes,
-            stops: None,
+            stops: ArrayVec::new(),
         };
         record.read_answer(&mut list)?;
         if list.is_empty() {
@@ -161,20 +160,21 @@ impl<'a> Record<'a> {
     fn read_answer(&mut self, list: &mut Reader<'a>) -> Result<(), Malformed> {
         let answered = matches!(self.class, Class::Completed) || always_answers(self.call);
         let cut_off = matches!(self.class, Class::CutOff);
-        let mut recorded = Words::untouched();
-        if answered || cut_off {
-            recorded.put(&list.numbers()?);
-        }
+        let recorded = if answered || cut_off {
+            list.numbers()?
+        } else {
+            ArrayVec::new()
+        };
         if answered {
-            self.words = recorded;
+            self.words.put(&recorded);
         } else if matches!(self.call, Call::Read(_) | Call::Write(_) | Call::Bits(_)) {
             self.words.put(&[self.first.pos as u64]);
         }
         if cut_off {
-            self.stops = Some(recorded);
+            self.stops = recorded;
             // They are given for no more windows than there are.
             let windows = self.windows;
-            if self.stop(windows) != Some(UNTOUCHED) {
+            if self.stop(windows).is_some() {
                 return Err(Malformed);
             }
         }
@@ -197,19 +197,17 @@ impl<'a> Record<'a> {
         Cursor { end, ..self.first }
     }
 
-    // The bit at which the original was cut off in window i, where it was. Behind the pairs that are recorded it is a word that is not put, and 0
-    // behind all that there is room for.
+    // The bit at which the original was cut off in window i, where one is recorded.
     fn stop(&self, i: u64) -> Option<u64> {
-        let stops = self.stops.as_ref()?;
         let mut before = i;
-        let (pairs, _) = stops.words.as_chunks::<2>();
+        let (pairs, _) = self.stops.as_chunks::<2>();
         for [windows, bit] in pairs {
             if before < *windows {
                 return Some(*bit);
             }
             before -= *windows;
         }
-        Some(0)
+        None
     }
 
     // The call on window i.

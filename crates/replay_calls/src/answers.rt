@@ -1,5 +1,6 @@
 // What a call answers: words, of which a call puts some and leaves the others as they are, or why it stops.
-ghost use Rattle.std.specs.Prelude.{◌≡◌, replicate};
+ghost use Rattle.std.specs.Prelude.{◌≡◌, ◌≢◌, replicate, MatchOption};
+ghost use Rattle.tetra_core.specs.Refusal.{number};
 ghost use Rattle.replay_calls.specs.Words.{put};
 
 use tetra_core::bitbuffer::{Copied, Cursor, Moved, Read};
@@ -8,8 +9,8 @@ use tetra_core::refusal::{Reason, Refusal};
 // Why a call answers nothing.
 #[derive(Clone, Copy)]
 pub enum Stop {
-    // Refused by a number, a read of the C interface also at a bit; of any other call the bit is 0.
-    Refused { number: u8, bit: u64 },
+    // Refused; of a call that is no read of the C interface the offset is 0.
+    Refused(Refusal),
     // What the call is given is no record of it.
     Malformed,
 }
@@ -54,32 +55,52 @@ impl Words {
     }
 }
 
+// The reason of a number, 1 to 14, of the C interface or of the list.
+pub fn reason_of(n: u64) -> Option<Reason>
+    ensures { MatchOption result ((r : _) → number r ≢ n) (λ r. number r ≡ n) }
+{
+    match n {
+        1 => Some(Reason::ReadPastEnd),
+        2 => Some(Reason::WritePastEnd),
+        3 => Some(Reason::ValueTooWide),
+        4 => Some(Reason::WrongPduType),
+        5 => Some(Reason::ExtendedCarrier),
+        6 => Some(Reason::Augmented),
+        7 => Some(Reason::UsageMarker),
+        8 => Some(Reason::Length),
+        9 => Some(Reason::NullPdu),
+        10 => Some(Reason::EncryptedAddress),
+        11 => Some(Reason::NoFrame18Pattern),
+        12 => Some(Reason::NoFillBit),
+        13 => Some(Reason::BadWindow),
+        14 => Some(Reason::DelayCount),
+        _ => None,
+    }
+}
+
 // The status of a read of the C interface: 0, 255, or the number of its refusal with 256 times the refused field's bit.
 pub(crate) fn read_status(status: u64) -> Result<(), Stop> {
-    let bit = status / 256;
-    match (status % 256) as u8 {
-        0 if bit == 0 => Ok(()),
-        255 if bit == 0 => Err(Stop::Malformed),
-        number => Err(Stop::Refused { number, bit }),
+    let offset = (status / 256) as usize;
+    match reason_of(status % 256) {
+        Some(reason) => Err(Stop::Refused(Refusal { offset, reason })),
+        None if status == 0 => Ok(()),
+        None => Err(Stop::Malformed),
     }
 }
 
 // The status of any other call of it: 0, 255, or the number of its refusal.
 pub(crate) fn status(status: u64) -> Result<(), Stop> {
-    match u8::try_from(status) {
-        Ok(0) => Ok(()),
-        Ok(number @ 1..=254) => Err(Stop::Refused { number, bit: 0 }),
-        _ => Err(Stop::Malformed),
+    match reason_of(status) {
+        Some(reason) => Err(Stop::from(reason)),
+        None if status == 0 => Ok(()),
+        None => Err(Stop::Malformed),
     }
 }
 
 // A write or a move has only a reason.
 impl From<Reason> for Stop {
     fn from(reason: Reason) -> Stop {
-        Stop::Refused {
-            number: reason.number(),
-            bit: 0,
-        }
+        Stop::Refused(Refusal { offset: 0, reason })
     }
 }
 
@@ -87,7 +108,7 @@ impl From<Reason> for Stop {
 impl From<Refusal> for Stop {
     fn from(r: Refusal) -> Stop {
         match r.offset {
-            0 => Stop::from(r.reason),
+            0 => Stop::Refused(r),
             _ => Stop::Malformed,
         }
     }

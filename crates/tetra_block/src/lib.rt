@@ -5,8 +5,8 @@
 #![tactic(auto)]
 
 ghost use Rattle.std.specs.Prelude.{◌++◌, ◌≡◌, ◌≤◌, length};
-ghost use Rattle.tetra_mac.specs.Reply.{replied, wrote, put_first, moved_reply};
-ghost use Rattle.tetra_block.specs.Block.{no_header, has_end, end_bit, resource_words, refused_words, entry_words, length_known, length_value, add_known, writer_moved, block_step_reply, block_add_reply, block_finish_reply};
+ghost use Rattle.tetra_mac.specs.Reply.{replied, wrote, put_first, moved_reply, value_if};
+ghost use Rattle.tetra_block.specs.Block.{no_header, has_end, end_bit, resource_words, refused_words, entry_words, length_known, length_value, writer_moved, block_step_reply, block_add_reply, block_finish_reply};
 
 use block_rules::to_add::LengthIndication;
 use mac_block::reader::{BlockEntry, RefusedPdu, ResourcePdu};
@@ -122,36 +122,16 @@ pub fn tetra_block_step(block: &[u8], bits: usize, bit: usize, out: &mut [u64]) 
     }
 }
 
-// Whether a code says how a PDU's length is written: 0 counted, 62 or 63 a mark.
-fn length_known(code: u64) -> bool
-    ensures { result ≡ length_known code }
+// How a PDU's length is written, by its code: 0 counted, 62 or 63 a mark.
+fn length_of(code: u64) -> Option<LengthIndication>
+    ensures { result ≡ value_if (length_known code) (length_value code) }
 {
     match code {
-        0 => true,
-        62 => true,
-        63 => true,
-        _ => false,
+        0 => Some(LengthIndication::Counted),
+        62 => Some(LengthIndication::SecondSlotStolen),
+        63 => Some(LengthIndication::FragStart),
+        _ => None,
     }
-}
-
-fn length_value(code: u64) -> LengthIndication
-    ensures { result ≡ length_value code }
-{
-    match code {
-        0 => LengthIndication::Counted,
-        62 => LengthIndication::SecondSlotStolen,
-        _ => LengthIndication::FragStart,
-    }
-}
-
-// Whether the code of a PDU's length and the words of its header are known.
-fn add_known(code: u64, words: &[u64]) -> bool
-    ensures { result ≡ add_known code words.now }
-{
-    if !length_known(code) {
-        return false;
-    }
-    tetra_resource::mac_resource_known(words)
 }
 
 // The status of a call that writes a block. The writer's bit stands in the block as a cursor's in its window.
@@ -164,8 +144,13 @@ fn writer_moved(out: &mut [u64], bits: usize, done: Written) -> u64
         pos: done.bit,
         end: bits,
     };
-    let answer = done.answer;
-    record::moved(out, Moved { cursor, answer })
+    record::moved(
+        out,
+        Moved {
+            cursor,
+            answer: done.answer,
+        },
+    )
 }
 
 // Adds a PDU behind those that were added.
@@ -184,11 +169,13 @@ pub fn tetra_block_add(
     if out.len() < 1 {
         return record::MALFORMED;
     }
-    if !add_known(length, words) {
+    let Some(indication) = length_of(length) else {
+        return record::MALFORMED;
+    };
+    if !tetra_resource::mac_resource_known(words) {
         return record::MALFORMED;
     }
     let header = tetra_resource::encoded_to_add(words);
-    let indication = length_value(length);
     let done = writer::add_encoded(block, bits, bit, header, indication, content, content_bits);
     writer_moved(out, bits, done)
 }

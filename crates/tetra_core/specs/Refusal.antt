@@ -1,6 +1,6 @@
 -- Refusals by number: 0 says that nothing is refused, and each reason has a number of its own. The order of refusals is a list: the first
 -- number in it that is not 0 is the call's.
-use Rattle.std.specs.Prelude.{ℕ, zero, suc, ◌-◌, ◌≡◌, refl, List, [], ◌∷◌, ◌++◌, Bool, true, false, Result, Ok, Err, IsErrAnd}
+use Rattle.std.specs.Prelude.{ℕ, zero, suc, ◌+◌, ◌-◌, ◌≤◌, ◌<◌, ◌≡◌, refl, List, [], ◌∷◌, ◌++◌, Bool, true, false, length, Result, Ok, Err, IsErrAnd}
 use Rattle.std.specs.Result.{result_and, is_err}
 use Rattle.std.proofs.Common.{sym, ap, ◌∙◌, arith}
 use Rattle.tetra_core.specs.declared.refusal.Reason.{Reason}
@@ -88,6 +88,21 @@ numbered NoFrame18Pattern = record { some = λ e. absurd (omega arith); back = r
 numbered NoFillBit = record { some = λ e. absurd (omega arith); back = refl }
 numbered BadWindow = record { some = λ e. absurd (omega arith); back = refl }
 numbered DelayCount = record { some = λ e. absurd (omega arith); back = refl }
+
+-- reasons whose numbers go up from k
+abbrev Counted : List Reason → ℕ → Type 0
+Counted [] k = Unit {0}
+Counted (r ∷ rs) k = (number r ≡ k) × Counted rs (suc k)
+
+counted : (rs : List Reason) (k j : ℕ) → Counted rs k → j < length rs → number (reason_in rs j) ≡ k + j
+counted [] k j c h = absurd (omega arith)
+counted (r ∷ rs) k zero c h = c.0 ∙ omega arith
+counted (r ∷ rs) k (suc j) c h = counted rs (suc k) j c.1 (omega arith) ∙ omega arith
+
+-- and each of the numbers 1 to 14 is its reason's
+pub reason-numbered : (j : ℕ) → 1 ≤ j → j ≤ 14 → number (reason j) ≡ j
+reason-numbered j l h =
+    counted reasons 1 (j - 1) (refl, (refl, (refl, (refl, (refl, (refl, (refl, (refl, (refl, (refl, (refl, (refl, (refl, (refl, tt)))))))))))))) (omega arith) ∙ omega arith
 
 -- where nothing is refused, the first entry refuses nothing, and neither do the others
 pub first-none : (n : ℕ) (ns : List ℕ) → first (n ∷ ns) ≡ 0 → (n ≡ 0) × (first ns ≡ 0)

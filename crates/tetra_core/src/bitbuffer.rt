@@ -115,11 +115,7 @@ fn write_refusal(len: usize, c: Cursor, value: u64, num_bits: usize) -> Result<(
 fn moved_to(c: Cursor, p: usize) -> Cursor
     ensures { result ≡ at c p }
 {
-    Cursor {
-        start: c.start,
-        pos: p,
-        end: c.end,
-    }
+    Cursor { pos: p, ..c }
 }
 
 // The cursor n bits on, or where it was if what is judged refuses the call.
@@ -258,12 +254,7 @@ fn room_refusal(len: usize, c: Cursor, num_bits: usize, reason: Reason) -> Resul
 fn into_slice_refusal(len: usize, c: Cursor, num_bits: usize, room: usize) -> Result<(), Reason>
     ensures { refused_by result ≡ into_slice_refusal len c num_bits room }
 {
-    if !good_window(len, c) {
-        return Err(Reason::BadWindow);
-    }
-    if c.end - c.pos < num_bits {
-        return Err(Reason::ReadPastEnd);
-    }
+    room_refusal(len, c, num_bits, Reason::ReadPastEnd)?;
     if room < (num_bits + 7) / 8 {
         return Err(Reason::WritePastEnd);
     }
@@ -561,15 +552,7 @@ pub fn seek(s: &[u8], c: Cursor, offset: usize) -> Moved
     if 65536 < offset {
         return unchanged(c);
     }
-    change(
-        s.len(),
-        c,
-        Cursor {
-            start: c.start,
-            pos: c.start + offset,
-            end: c.end,
-        },
-    )
+    change(s.len(), c, moved_to(c, c.start + offset))
 }
 
 // Moves the cursor by offset bits, on or back.
@@ -611,45 +594,21 @@ pub fn get_raw_pos(c: Cursor) -> usize
 pub fn set_raw_start(s: &[u8], c: Cursor, start: usize) -> Moved
     ensures { result ≡ changed (length s.now) c (record { start = start; pos = c.pos; end = c.end }) }
 {
-    change(
-        s.len(),
-        c,
-        Cursor {
-            start,
-            pos: c.pos,
-            end: c.end,
-        },
-    )
+    change(s.len(), c, Cursor { start, ..c })
 }
 
 // Moves the window's end.
 pub fn set_raw_end(s: &[u8], c: Cursor, end: usize) -> Moved
     ensures { result ≡ changed (length s.now) c (record { start = c.start; pos = c.pos; end = end }) }
 {
-    change(
-        s.len(),
-        c,
-        Cursor {
-            start: c.start,
-            pos: c.pos,
-            end,
-        },
-    )
+    change(s.len(), c, Cursor { end, ..c })
 }
 
 // Moves the cursor to a bit of the slice.
 pub fn set_raw_pos(s: &[u8], c: Cursor, pos: usize) -> Moved
     ensures { result ≡ changed (length s.now) c (at c pos) }
 {
-    change(
-        s.len(),
-        c,
-        Cursor {
-            start: c.start,
-            pos,
-            end: c.end,
-        },
-    )
+    change(s.len(), c, moved_to(c, pos))
 }
 
 // A window over the first len_bits bits of the slice, with its cursor at the first.

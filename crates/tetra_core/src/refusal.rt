@@ -6,33 +6,33 @@ ghost use Rattle.tetra_core.specs.Refusal.{number};
 #[derive(Clone, Copy, Debug, PartialEq, Eq)]
 pub enum Reason {
     // A read past the window's end, or of more than 64 bits.
-    ReadPastEnd,
+    ReadPastEnd = 1,
     // A write past the window's end or of more than 64 bits; a PDU longer than what is left of its block.
-    WritePastEnd,
+    WritePastEnd = 2,
     // A value wider than its field.
-    ValueTooWide,
+    ValueTooWide = 3,
     // A PDU type that is not the one expected.
-    WrongPduType,
+    WrongPduType = 4,
     // A channel allocation whose extension flag is set.
-    ExtendedCarrier,
+    ExtendedCarrier = 5,
     // A channel allocation in the augmented direction.
-    Augmented,
+    Augmented = 6,
     // An uplink usage marker 1 to 3, or one without a code; a traffic marker below 4.
-    UsageMarker,
+    UsageMarker = 7,
     // A length of 0 octets, of more than 61, or one that a block's rules refuse.
-    Length,
+    Length = 8,
     // A null PDU where there can be none, or with a field that carries no meaning in it.
-    NullPdu,
+    NullPdu = 9,
     // An SSI, USSI or SMI written with encryption.
-    EncryptedAddress,
+    EncryptedAddress = 10,
     // Monitoring pattern 0 without a frame-18 pattern.
-    NoFrame18Pattern,
+    NoFrame18Pattern = 11,
     // The fill flag is set and no 1 follows the header.
-    NoFillBit,
+    NoFillBit = 12,
     // A window that is not good; a count of bits over the limit or over its bytes.
-    BadWindow,
+    BadWindow = 13,
     // A granting delay that is not of 1 to 13 opportunities.
-    DelayCount,
+    DelayCount = 14,
 }
 
 impl Reason {
@@ -40,22 +40,7 @@ impl Reason {
     pub fn number(self) -> u8
         ensures { result ≡ number self }
     {
-        match self {
-            Reason::ReadPastEnd => 1,
-            Reason::WritePastEnd => 2,
-            Reason::ValueTooWide => 3,
-            Reason::WrongPduType => 4,
-            Reason::ExtendedCarrier => 5,
-            Reason::Augmented => 6,
-            Reason::UsageMarker => 7,
-            Reason::Length => 8,
-            Reason::NullPdu => 9,
-            Reason::EncryptedAddress => 10,
-            Reason::NoFrame18Pattern => 11,
-            Reason::NoFillBit => 12,
-            Reason::BadWindow => 13,
-            Reason::DelayCount => 14,
-        }
+        self as u8
     }
 }
 

@@ -1,15 +1,14 @@
 -- The channel allocation as a record of 9 words: allocation type 0 to 3; timeslots as 4 bits (slot 1 is 8); direction 0 to 3; CLCH permission;
 -- cell change; carrier; monitoring pattern; frame-18 pattern present; frame-18 pattern.
-use Rattle.std.specs.Prelude.{ℕ, min, List, [], ◌∷◌, Bool, cond, ◌&&◌, length, eqb, leb, Err, None, Ok, Option, Result, Some}
+use Rattle.std.specs.Prelude.{ℕ, min, List, [], ◌∷◌, Bool, ◌&&◌, length, leb, None, Option, Result, Some}
 use Rattle.bits.specs.Bits.{digit}
-use Rattle.tetra_core.specs.Refusal.{number}
 use Rattle.tetra_core.specs.declared.bitbuffer.Cursor.{Cursor}
 use Rattle.tetra_core.specs.declared.quantity.Bits.{Bits}
 use Rattle.tetra_core.specs.declared.refusal.Reason.{Reason}
 use Rattle.codec.specs.Cases.{flag}
 use Rattle.channel_allocation.specs.ChannelAllocation.{alloc_type_number, alloc_type_of, ul_dl_number, ul_dl_of, timeslots_number, timeslots_of, frame18_number, channel_allocation_at, channel_allocation_write, channel_allocation_written, compute_len}
 use Rattle.channel_allocation.specs.declared.channel_allocation.ChanAllocElement.{ChanAllocElement}
-use Rattle.tetra_mac.specs.Reply.{Reply, WriteReply, counted_reply, replied, header_read_reply, write_reply, record_reply, value_if, word}
+use Rattle.tetra_mac.specs.Reply.{Reply, WriteReply, bits_counted, header_read_reply, write_reply, record_reply, value_if, number_if, word}
 
 -- ---- the words of a channel allocation
 
@@ -35,8 +34,8 @@ channel_allocation_words e =
 unfoldable pub channel_allocation_known : List ℕ → Bool
 channel_allocation_known ws = leb 9 (length ws) && (leb (word ws 0) 3 && (leb (word ws 1) 15 && leb (word ws 2) 3))
 
-unfoldable pub frame18_value : ℕ → ℕ → Option ℕ
-frame18_value present v = cond (eqb present 0) None (Some v)
+abbrev pub frame18_value : ℕ → ℕ → Option ℕ
+frame18_value = number_if
 
 unfoldable pub channel_allocation_value : List ℕ → ChanAllocElement
 channel_allocation_value ws =
@@ -64,8 +63,7 @@ channel_allocation_write_reply s c ws out =
     write_reply (channel_allocation_write s c) (channel_allocation_written s c) s (channel_allocation_of_words ws) out
 
 abbrev pub chan_alloc_len_reply : List ℕ → Result Bits Reason → Reply
-chan_alloc_len_reply out (Ok n) = counted_reply out (n.0 ∷ [])
-chan_alloc_len_reply out (Err r) = replied (number r) out
+chan_alloc_len_reply = bits_counted
 
 abbrev pub channel_allocation_len_reply : List ℕ → List ℕ → Reply
 channel_allocation_len_reply ws out = record_reply (λ e. chan_alloc_len_reply out (compute_len e)) 1 (channel_allocation_of_words ws) out

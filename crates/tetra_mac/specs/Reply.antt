@@ -1,11 +1,12 @@
 -- What a call of the interface returns, and the words that it leaves in out. A flag is 0 where it is false and any other number where it is
 -- true, and is read back as 0 or 1.
-use Rattle.std.specs.Prelude.{ℕ, ◌+◌, ◌*◌, List, [], ◌∷◌, Bool, cond, length, get_or, leb, Err, Ok, Result, Option, Some, None}
+use Rattle.std.specs.Prelude.{ℕ, ◌+◌, ◌*◌, List, [], ◌∷◌, Bool, cond, length, get_or, eqb, leb, Err, Ok, Result, Option, Some, None}
 use Rattle.std.proofs.lemmas.List.Edits.{sets}
 use Rattle.tetra_core.specs.Refusal.{number}
 use Rattle.tetra_core.specs.declared.bitbuffer.Cursor.{Cursor}
 use Rattle.tetra_core.specs.declared.bitbuffer.Moved.{Moved}
 use Rattle.tetra_core.specs.declared.bitbuffer.Read.{Read}
+use Rattle.tetra_core.specs.declared.quantity.Bits.{Bits}
 use Rattle.tetra_core.specs.declared.refusal.Reason.{Reason}
 use Rattle.tetra_core.specs.declared.refusal.Refusal.{Refusal}
 
@@ -94,6 +95,11 @@ write_reply write written s (Some v) out = cond (leb 1 (length out)) (with_bytes
 abbrev pub counted_reply : List ℕ → List ℕ → Reply
 counted_reply out ws = replied 0 (put_first out ws)
 
+-- of one that counts them alone, by their number or by the refusal
+abbrev pub bits_counted : List ℕ → Result Bits Reason → Reply
+bits_counted out (Ok n) = counted_reply out (n.0 ∷ [])
+bits_counted out (Err r) = replied (number r) out
+
 unfoldable pub record_reply : {A : Type 0} → (A → Reply) → ℕ → Option A → List ℕ → Reply
 record_reply reply n None out = replied malformed out
 record_reply reply n (Some v) out = cond (leb n (length out)) (reply v) (replied malformed out)
@@ -101,3 +107,7 @@ record_reply reply n (Some v) out = cond (leb n (length out)) (reply v) (replied
 -- the word i of a record
 abbrev pub word : List ℕ → ℕ → ℕ
 word ws i = get_or ws i 0
+
+-- a number behind its flag, which is not looked at where the flag is 0
+unfoldable pub number_if : ℕ → ℕ → Option ℕ
+number_if present v = cond (eqb present 0) None (Some v)

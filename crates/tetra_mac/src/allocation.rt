@@ -2,7 +2,7 @@
 // pattern, whether there is a frame-18 pattern, frame-18 pattern.
 ghost use Rattle.std.specs.Prelude.{◌≡◌, ◌≤◌, length};
 ghost use Rattle.tetra_mac.specs.Reply.{replied, wrote, window};
-ghost use Rattle.tetra_mac.specs.ChannelAllocation.{frame18_present, frame18_value, channel_allocation_words, channel_allocation_known, channel_allocation_value, channel_allocation_read_reply, channel_allocation_write_reply, channel_allocation_len_reply};
+ghost use Rattle.tetra_mac.specs.ChannelAllocation.{frame18_present, channel_allocation_words, channel_allocation_known, channel_allocation_value, channel_allocation_read_reply, channel_allocation_write_reply, channel_allocation_len_reply};
 ghost use Rattle.tetra_mac.specs.Laws.ChannelAllocation.{channel_allocation-long, channel_allocation-placed};
 
 use crate::record;
@@ -32,7 +32,7 @@ const HAS_FRAME_18: usize = 7;
 
 const FRAME_18_PATTERN: usize = 8;
 
-const WORDS: usize = 9;
+pub const WORDS: usize = 9;
 
 fn frame18_present(p: Option<u8>) -> u64
     ensures { result ≡ frame18_present p }
@@ -41,15 +41,6 @@ fn frame18_present(p: Option<u8>) -> u64
         None => 0,
         Some(_) => 1,
     }
-}
-
-fn frame18_value(present: u64, v: u8) -> Option<u8>
-    ensures { result ≡ frame18_value present v }
-{
-    if present == 0 {
-        return None;
-    }
-    Some(v)
 }
 
 // The words of a channel allocation.
@@ -105,7 +96,7 @@ pub fn channel_allocation_value(words: &[u64]) -> ChanAllocElement
         cell_change_flag: words[CELL_CHANGE] != 0,
         carrier_num: record::number16(words[CARRIER]),
         mon_pattern: record::number8(words[MON_PATTERN]),
-        frame18_mon_pattern: frame18_value(
+        frame18_mon_pattern: record::number_if(
             words[HAS_FRAME_18],
             record::number8(words[FRAME_18_PATTERN]),
         ),
@@ -173,11 +164,5 @@ pub fn tetra_channel_allocation_len(words: &[u64], out: &mut [u64]) -> u64
         return record::MALFORMED;
     }
     let e = channel_allocation_value(words);
-    match allocation::compute_len(e) {
-        Ok(n) => {
-            out[0] = n.0 as u64;
-            0
-        }
-        Err(reason) => reason.number() as u64,
-    }
+    record::counted(out, allocation::compute_len(e))
 }

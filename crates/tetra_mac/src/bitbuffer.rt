@@ -14,8 +14,7 @@ fn bits_reply(out: &mut [u64], done: Read<u64>) -> u64
     ensures { replied result out.new ≡ bits_reply out.old done.cursor.pos done.answer }
 {
     let at = done.cursor.pos;
-    let answer = done.answer;
-    match answer {
+    match done.answer {
         Ok(v) => {
             let words = [v];
             record::give(out, at, &words)

@@ -1,17 +1,18 @@
-// What every call shares: its status, the words that it puts into out, the calls that read and write a header's record, and numbers cut down
-// to the type of their field.
+// What every call shares: its status, the words that it puts into out, the calls that read and write a header's record, and a record's numbers
+// behind a flag or cut down to the type of their field.
 ghost use Rattle.std.specs.Prelude.{ℕ, List, Bool, true, ◌≡◌, ◌+◌, ◌≤◌, ◌<◌, min, length};
 ghost use Rattle.std.proofs.lemmas.List.Edits.{sets};
 ghost use Rattle.codec.specs.Header.{at_cursor};
 ghost use Rattle.codec.specs.Write.{write_at, written_at};
-ghost use Rattle.tetra_mac.specs.Reply.{replied, wrote, status_of, given_reply, denied_reply, moved_reply, header_read_reply, write_reply, value_if};
+ghost use Rattle.tetra_mac.specs.Reply.{replied, wrote, status_of, given_reply, denied_reply, moved_reply, bits_counted, header_read_reply, write_reply, value_if, number_if};
 ghost use Rattle.tetra_mac.specs.Laws.Placed.{Placed};
 
 use codec::encoded::Encode;
 use codec::header::Header;
 use codec::{encoded, header};
 use tetra_core::bitbuffer::{Cursor, Moved};
-use tetra_core::refusal::Refusal;
+use tetra_core::quantity::Bits;
+use tetra_core::refusal::{Reason, Refusal};
 
 // The status of a call whose record or out is too short, or whose record has a code that no case has.
 pub const MALFORMED: u64 = 255;
@@ -59,9 +60,22 @@ pub fn moved(out: &mut [u64], m: Moved) -> u64
     ensures { replied result out.new ≡ moved_reply out.old m }
 {
     out[0] = m.cursor.pos as u64;
-    let answer = m.answer;
-    match answer {
+    match m.answer {
         Ok(()) => 0,
+        Err(reason) => reason.number() as u64,
+    }
+}
+
+// Puts a number of bits into out: the status of a call that counts them.
+pub fn counted(out: &mut [u64], bits: Result<Bits, Reason>) -> u64
+    requires { 0 < length out.old }
+    ensures { replied result out.new ≡ bits_counted out.old bits }
+{
+    match bits {
+        Ok(n) => {
+            out[0] = n.0 as u64;
+            0
+        }
         Err(reason) => reason.number() as u64,
     }
 }
@@ -102,8 +116,7 @@ pub(crate) fn read<const N: usize, T: Record<N>>(s: &[u8], c: Cursor, out: &mut 
     }
     let done = header::from_bitbuf::<T>(s, c);
     let at = done.cursor.pos;
-    let answer = done.answer;
-    match answer {
+    match done.answer {
         Ok(h) => {
             let words = T::words(h);
             give(out, at, &words)
@@ -130,6 +143,16 @@ pub(crate) fn write<const N: usize, T: Record<N>>(
     let h = T::value(words);
     let done = encoded::to_bitbuf(s, c, h);
     moved(out, done)
+}
+
+// A number that may not be there, behind its flag.
+pub fn number_if(present: u64, v: u8) -> Option<u8>
+    ensures { result ≡ number_if present v }
+{
+    if present == 0 {
+        return None;
+    }
+    Some(v)
 }
 
 // A number for a field of type u8: one too large becomes the largest, which a codec refuses.

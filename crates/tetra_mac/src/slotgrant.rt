@@ -18,7 +18,7 @@ const DELAY_KIND: usize = 1;
 
 const DELAY_COUNT: usize = 2;
 
-const WORDS: usize = 3;
+pub const WORDS: usize = 3;
 
 fn delay_kind(d: BasicSlotgrantGrantingDelay) -> u64
     ensures { result ≡ delay_kind d }

@@ -4,13 +4,13 @@
 // the readers and writers of an element have a caller more, and the compiler would not put them here.
 #![tactic(auto)]
 
-ghost use Rattle.std.specs.Prelude.{◌∷◌, ◌≡◌, ◌≤◌, length};
+ghost use Rattle.std.specs.Prelude.{◌+◌, ◌∷◌, ◌≡◌, ◌≤◌, length};
 ghost use Rattle.std.proofs.lemmas.List.Edits.{sets};
 ghost use Rattle.mac_resource.specs.Address.{is_null};
 ghost use Rattle.optional_elements.specs.Elements.{is_bare};
 ghost use Rattle.mac_resource.specs.MacResource.{null_of, elements_of, add_refusal, mac_resource_refusal, EncodesRest, EncodesResource};
 ghost use Rattle.tetra_mac.specs.Reply.{replied, wrote, window, put_first, given_reply};
-ghost use Rattle.tetra_resource.specs.MacResource.{fixed_words, address_words, power_words, first_words, granting_words, allocation_words, mac_resource_words, power_value, granting_known, granting_value, allocation_known, allocation_value, first_fields, address_of_words, power_of_words, assembled, bare_of, mac_resource_known, mac_resource_value, mac_resource_read_reply, mac_resource_write_reply, header_len_reply, update_len_reply};
+ghost use Rattle.tetra_resource.specs.MacResource.{fixed_words, address_words, power_words, first_words, element_words, mac_resource_words, element_known, element_value, first_fields, address_of_words, power_of_words, assembled, bare_of, mac_resource_known, mac_resource_value, mac_resource_read_reply, mac_resource_write_reply, header_len_reply, update_len_reply};
 
 use channel_allocation::channel_allocation::ChanAllocElement;
 use codec::encoded;
@@ -24,7 +24,10 @@ use optional_elements::grant_and_allocation::GrantAndAllocation;
 use tetra_core::address::DownlinkAddress;
 use tetra_core::bitbuffer::Cursor;
 use tetra_fields::fields::basic_slotgrant::BasicSlotgrant;
-use tetra_mac::{address, allocation, record, slotgrant};
+use tetra_mac::allocation::WORDS as ALLOCATION_WORDS;
+use tetra_mac::record::Record;
+use tetra_mac::slotgrant::WORDS as GRANTING_WORDS;
+use tetra_mac::{address, record};
 
 // The places of the record: an element has its flag and, behind it, its own record.
 const FILL_BITS: usize = 0;
@@ -62,11 +65,7 @@ const READ_POWER: usize = POWER + 1;
 
 const READ_GRANTING: usize = GRANTING + 1;
 
-const READ_GRANTING_ELEMENT: usize = GRANTING + 2;
-
 const READ_ALLOCATION: usize = ALLOCATION + 1;
-
-const READ_ALLOCATION_ELEMENT: usize = ALLOCATION + 2;
 
 const READ_WORDS: usize = WORDS + 1;
 
@@ -128,37 +127,21 @@ fn put_first(out: &mut [u64], at: usize, h: MacResource)
     record::put_words(out, READ_POWER, &power);
 }
 
-// Each optional element has its words behind its flag, at a place of its own in out.
-fn put_granting(out: &mut [u64], g: Option<BasicSlotgrant>)
-    requires { 26 ≤ length out.old }
-    ensures { out.new ≡ sets out.old 12 (granting_words g) }
+// Each optional element has the words of its record behind its flag, at a place of its own in out.
+fn put_element<const N: usize, T: Record<N>>(out: &mut [u64], at: usize, e: Option<T>)
+    requires { at + (N + 1) ≤ length out.old }
+    ensures { out.new ≡ sets out.old at (element_words T.words_of N e) }
 {
-    match g {
+    match e {
         None => {
-            let words = [0u64; 4];
-            record::put_words(out, READ_GRANTING, &words);
+            let words = [0u64; N];
+            out[at] = 0;
+            record::put_words(out, at + 1, &words);
         }
         Some(e) => {
-            let words = slotgrant::slotgrant_words(e);
-            out[READ_GRANTING] = 1;
-            record::put_words(out, READ_GRANTING_ELEMENT, &words);
-        }
-    }
-}
-
-fn put_allocation(out: &mut [u64], a: Option<ChanAllocElement>)
-    requires { 26 ≤ length out.old }
-    ensures { out.new ≡ sets out.old 16 (allocation_words a) }
-{
-    match a {
-        None => {
-            let words = [0u64; 10];
-            record::put_words(out, READ_ALLOCATION, &words);
-        }
-        Some(e) => {
-            let words = allocation::channel_allocation_words(e);
-            out[READ_ALLOCATION] = 1;
-            record::put_words(out, READ_ALLOCATION_ELEMENT, &words);
+            let words = T::words(e);
+            out[at] = 1;
+            record::put_words(out, at + 1, &words);
         }
     }
 }
@@ -171,8 +154,8 @@ pub fn give_mac_resource(out: &mut [u64], at: usize, h: MacResource) -> u64
     let g = h.slot_granting_element;
     let a = h.chan_alloc_element;
     put_first(out, at, h);
-    put_granting(out, g);
-    put_allocation(out, a);
+    put_element::<GRANTING_WORDS, BasicSlotgrant>(out, READ_GRANTING, g);
+    put_element::<ALLOCATION_WORDS, ChanAllocElement>(out, READ_ALLOCATION, a);
     0
 }
 
@@ -188,25 +171,15 @@ fn give_null(out: &mut [u64], at: usize, length_ind: u8) -> u64
     0
 }
 
-// Whether the words of an element, its flag and those behind it, have no unknown code. Those behind a flag of 0 are not looked at.
-fn granting_known(words: &[u64]) -> bool
-    requires { 4 ≤ length words.now }
-    ensures { result ≡ granting_known words.now }
+// Whether the words of an element, its flag and those of its record, have no unknown code. Those behind a flag of 0 are not looked at.
+fn element_known<const N: usize, T: Record<N>>(words: &[u64]) -> bool
+    requires { N + 1 ≤ length words.now }
+    ensures { result ≡ element_known T.known N words.now }
 {
     if words[0] == 0 {
         return true;
     }
-    slotgrant::slotgrant_known(&words[1..4])
-}
-
-fn allocation_known(words: &[u64]) -> bool
-    requires { 10 ≤ length words.now }
-    ensures { result ≡ allocation_known words.now }
-{
-    if words[0] == 0 {
-        return true;
-    }
-    allocation::channel_allocation_known(&words[1..10])
+    T::known(&words[1..N + 1])
 }
 
 // Whether words are long enough for a MAC-RESOURCE and have no unknown code.
@@ -219,39 +192,21 @@ pub fn mac_resource_known(words: &[u64]) -> bool
     if !address::address_known(words[ADDRESS_TYPE], words[SSI_KIND]) {
         return false;
     }
-    if !granting_known(&words[GRANTING..ALLOCATION]) {
+    if !element_known::<GRANTING_WORDS, BasicSlotgrant>(&words[GRANTING..ALLOCATION]) {
         return false;
     }
-    allocation_known(&words[ALLOCATION..WORDS])
+    element_known::<ALLOCATION_WORDS, ChanAllocElement>(&words[ALLOCATION..WORDS])
 }
 
-fn power_value(present: u64, v: u8) -> Option<u8>
-    ensures { result ≡ power_value present v }
-{
-    if present == 0 {
-        return None;
-    }
-    Some(v)
-}
-
-fn granting_value(words: &[u64]) -> Option<BasicSlotgrant>
-    requires { 4 ≤ length words.now }
-    ensures { result ≡ granting_value words.now }
+// The element of words whose codes are known.
+fn element_value<const N: usize, T: Record<N>>(words: &[u64]) -> Option<T>
+    requires { N + 1 ≤ length words.now }
+    ensures { result ≡ element_value T.value N words.now }
 {
     if words[0] == 0 {
         return None;
     }
-    Some(slotgrant::slotgrant_value(&words[1..4]))
-}
-
-fn allocation_value(words: &[u64]) -> Option<ChanAllocElement>
-    requires { 10 ≤ length words.now }
-    ensures { result ≡ allocation_value words.now }
-{
-    if words[0] == 0 {
-        return None;
-    }
-    Some(allocation::channel_allocation_value(&words[1..10]))
+    Some(T::value(&words[1..N + 1]))
 }
 
 // The fields before the address.
@@ -293,7 +248,7 @@ fn power_of(words: &[u64]) -> Option<u8>
     requires { 25 ≤ length words.now }
     ensures { result ≡ power_of_words words.now }
 {
-    power_value(words[POWER], record::number8(words[POWER_LEVEL]))
+    record::number_if(words[POWER], record::number8(words[POWER_LEVEL]))
 }
 
 fn assembled(
@@ -327,8 +282,8 @@ pub fn mac_resource_value(words: &[u64]) -> MacResource
         first_fields(words),
         address_of(words),
         power_of(words),
-        granting_value(&words[GRANTING..ALLOCATION]),
-        allocation_value(&words[ALLOCATION..WORDS]),
+        element_value::<GRANTING_WORDS, BasicSlotgrant>(&words[GRANTING..ALLOCATION]),
+        element_value::<ALLOCATION_WORDS, ChanAllocElement>(&words[ALLOCATION..WORDS]),
     )
 }
 
@@ -378,8 +333,12 @@ fn rest_of(words: &[u64], null: bool) -> Encoded
         };
     }
     let power_control_element = power_of(words);
-    let slot_granting_element = granting_value(&words[GRANTING..ALLOCATION]);
-    let chan_alloc_element = allocation_value(&words[ALLOCATION..WORDS]);
+    let slot_granting_element = element_value::<GRANTING_WORDS, BasicSlotgrant>(
+        &words[GRANTING..ALLOCATION],
+    );
+    let chan_alloc_element = element_value::<ALLOCATION_WORDS, ChanAllocElement>(
+        &words[ALLOCATION..WORDS],
+    );
     elements::elements_encoded(Elements {
         power_control_element,
         grant_and_allocation: GrantAndAllocation {
@@ -425,8 +384,7 @@ pub fn tetra_mac_resource_read(
     }
     let done = resource::from_bitbuf(s, Cursor { start, pos, end });
     let at = done.cursor.pos;
-    let answer = done.answer;
-    match answer {
+    match done.answer {
         Ok(h) => {
             if resource::is_null_pdu(h) {
                 return give_null(out, at, h.length_ind);
@@ -470,13 +428,7 @@ pub fn tetra_mac_resource_compute_header_len(words: &[u64], out: &mut [u64]) -> 
         return record::MALFORMED;
     }
     let h = mac_resource_value(words);
-    match resource::compute_header_len(h) {
-        Ok(n) => {
-            out[0] = n.0 as u64;
-            0
-        }
-        Err(reason) => reason.number() as u64,
-    }
+    record::counted(out, resource::compute_header_len(h))
 }
 
 // The length of a MAC-RESOURCE with sdu_len bits of content, its fill flag and its fill bits.

@@ -10,10 +10,7 @@ pub fn read_full<R: Read>(input: &mut R, buf: &mut [u8]) -> usize
 {
     let mut done = 0;
     while done < buf.len() {
-        let n = match input.read(&mut buf[done..]) {
-            Ok(n) => n,
-            Err(_) => 0,
-        };
+        let n = input.read(&mut buf[done..]).unwrap_or(0);
         if n == 0 {
             break;
         }

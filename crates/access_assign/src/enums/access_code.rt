@@ -7,10 +7,10 @@ use codec::cases::NoCase;
 
 #[derive(Clone, Copy)]
 pub enum AccessCode {
-    AccessCodeA,
-    AccessCodeB,
-    AccessCodeC,
-    AccessCodeD,
+    AccessCodeA = 0,
+    AccessCodeB = 1,
+    AccessCodeC = 2,
+    AccessCodeD = 3,
 }
 
 impl AccessCode {
@@ -31,12 +31,7 @@ impl AccessCode {
     pub fn into_raw(self) -> u64
         ensures { (result ≡ access_code_number self) × (result < 4) }
     {
-        match self {
-            AccessCode::AccessCodeA => 0,
-            AccessCode::AccessCodeB => 1,
-            AccessCode::AccessCodeC => 2,
-            AccessCode::AccessCodeD => 3,
-        }
+        self as u64
     }
 }
 

@@ -8,25 +8,25 @@ use codec::cases::NoCase;
 #[derive(Clone, Copy)]
 pub enum BaseFrameLength {
     // The subslot is assigned already; the access code has no meaning.
-    ReservedSubslot,
+    ReservedSubslot = 0,
     // Common access for linearisation only; the access code has no meaning.
-    CLCHSubslot,
+    CLCHSubslot = 1,
     // The access frame that began before goes on.
-    OngoingFrame,
+    OngoingFrame = 2,
     // A new access frame of so many subslots.
-    Subslots1,
-    Subslots2,
-    Subslots3,
-    Subslots4,
-    Subslots5,
-    Subslots6,
-    Subslots8,
-    Subslots10,
-    Subslots12,
-    Subslots16,
-    Subslots20,
-    Subslots24,
-    Subslots32,
+    Subslots1 = 3,
+    Subslots2 = 4,
+    Subslots3 = 5,
+    Subslots4 = 6,
+    Subslots5 = 7,
+    Subslots6 = 8,
+    Subslots8 = 9,
+    Subslots10 = 10,
+    Subslots12 = 11,
+    Subslots16 = 12,
+    Subslots20 = 13,
+    Subslots24 = 14,
+    Subslots32 = 15,
 }
 
 impl BaseFrameLength {
@@ -59,24 +59,7 @@ impl BaseFrameLength {
     pub fn into_raw(self) -> u64
         ensures { (result ≡ base_frame_length_number self) × (result < 16) }
     {
-        match self {
-            BaseFrameLength::ReservedSubslot => 0,
-            BaseFrameLength::CLCHSubslot => 1,
-            BaseFrameLength::OngoingFrame => 2,
-            BaseFrameLength::Subslots1 => 3,
-            BaseFrameLength::Subslots2 => 4,
-            BaseFrameLength::Subslots3 => 5,
-            BaseFrameLength::Subslots4 => 6,
-            BaseFrameLength::Subslots5 => 7,
-            BaseFrameLength::Subslots6 => 8,
-            BaseFrameLength::Subslots8 => 9,
-            BaseFrameLength::Subslots10 => 10,
-            BaseFrameLength::Subslots12 => 11,
-            BaseFrameLength::Subslots16 => 12,
-            BaseFrameLength::Subslots20 => 13,
-            BaseFrameLength::Subslots24 => 14,
-            BaseFrameLength::Subslots32 => 15,
-        }
+        self as u64
     }
 }
 

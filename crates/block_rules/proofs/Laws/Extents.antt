@@ -10,7 +10,7 @@ use Rattle.block_rules.proofs.Laws.Lists.{cond_ind, field-take, field-same}
 
 unfoldable pub Bounds : ℕ → Extent → Type 0
 Bounds left Extent.End = left < least_bits
-Bounds left (Extent.Unsized r o) = least_bits ≤ left
+Bounds left (Extent.Unsized r) = least_bits ≤ left
 Bounds left (Extent.Null l) = least_bits ≤ left
 Bounds left (Extent.Sized s) = (least_bits ≤ s) × (s ≤ left)
 
@@ -44,13 +44,13 @@ extent-short bits h = rw (lt-ltb (length bits) least_bits h)
 -- the extent that a PDU's own bits have, by the extent that they have in a block
 Again : (t l a : ℕ) → Extent → Type 0
 Again t l a Extent.End = Unit {0}
-Again t l a (Extent.Unsized r o) = Unit {0}
+Again t l a (Extent.Unsized r) = Unit {0}
 Again t l a (Extent.Null k) = extent_of least_bits t l a ≡ Extent.Null k
 Again t l a (Extent.Sized s) = extent_of s t l a ≡ Extent.Sized s
 
 AgainCounted : (l o : ℕ) → Extent → Type 0
 AgainCounted l o Extent.End = ⊥
-AgainCounted l o (Extent.Unsized r k) = Unit {0}
+AgainCounted l o (Extent.Unsized r) = Unit {0}
 AgainCounted l o (Extent.Null k) = ⊥
 AgainCounted l o (Extent.Sized s) = (least_bits ≤ s) × (counted_extent s l o ≡ Extent.Sized s)
 
@@ -66,7 +66,7 @@ from-counted : (t l a o : ℕ) (f : Extent) → AgainCounted l o f
     → ((s : ℕ) → least_bits ≤ s → counted_extent s l o ≡ Extent.Sized s → extent_of s t l a ≡ Extent.Sized s) → Again t l a f
 unfolding Again AgainCounted
 from-counted t l a o Extent.End x g = absurd x
-from-counted t l a o (Extent.Unsized r k) x g = tt
+from-counted t l a o (Extent.Unsized r) x g = tt
 from-counted t l a o (Extent.Null k) x g = absurd x
 from-counted t l a o (Extent.Sized s) x g = g s x.0 x.1
 

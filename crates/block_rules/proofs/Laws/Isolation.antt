@@ -62,7 +62,7 @@ module _ {H : Type 0} (R : HeaderReader H) (b b' : List Bool) (len : length b' �
   alike =
       walk-ind R b (λ p w. Kept w → Alike b b' w (from R b' p))
       (λ p h k _. alike_same b b' _ _ (from_end R b' p (omega arith) (omega arith)))
-      (λ p r o h e k. alike_same b b' _ _ (from-unsized R b' p r o (omega arith) (extent-kept p _ (k 0 _ refl) e)))
+      (λ p r h e k. alike_same b b' _ _ (from-unsized R b' p r (omega arith) (extent-kept p _ (k 0 _ refl) e)))
       (λ p l h e k. alike_same b b' _ _ (from_null R b' p l (omega arith) (extent-kept p _ (k 0 _ refl) e)))
       (λ p s h m e ih k.
       rw (from-sized R b' p s (omega arith) (extent-kept p _ (k 0 _ refl) e))

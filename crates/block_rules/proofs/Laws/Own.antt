@@ -7,7 +7,7 @@ use mathlib.Core.List.{List, []}
 use Rattle.std.proofs.Math.ListN.{length, length-drop}
 use Rattle.std.proofs.Math.Seq.{take-length, length-take-le}
 use Rattle.tetra_core.specs.Refusal.{number}
-use Rattle.tetra_core.specs.declared.refusal.Reason.{Reason}
+use Rattle.tetra_core.specs.declared.refusal.Refusal.{Refusal}
 use Rattle.codec.specs.Reader.{Out}
 use Rattle.block_rules.specs.Numbers.{least_bits}
 use Rattle.block_rules.specs.declared.extent.Extent.{Extent}
@@ -33,9 +33,9 @@ module _ {H : Type 0} (R : HeaderReader H) where
   unfolding pdu_of
   first-null bits l e = first_by (take least_bits bits) (Extent.Null l) (extent-null bits l e)
 
-  first-unsized : (bits : List Bool) (r : Reason) (o : ℕ) → extent bits ≡ Extent.Unsized r o → first_pdu R (take (length bits) bits) ≡ Some (Pdu.unsized (number r) o)
+  first-unsized : (bits : List Bool) (r : Refusal) → extent bits ≡ Extent.Unsized r → first_pdu R (take (length bits) bits) ≡ Some (Pdu.unsized (number r.reason) r.offset)
   unfolding pdu_of
-  first-unsized bits r o e = rw (take-length bits) (first_by bits (Extent.Unsized r o) e)
+  first-unsized bits r e = rw (take-length bits) (first_by bits (Extent.Unsized r) e)
 
   first-sized : (bits : List Bool) (s : ℕ) → extent bits ≡ Extent.Sized s → first_pdu R (take s bits) ≡ Some (Pdu.sized s (read_pdu R bits s))
   unfolding pdu_of read_pdu
@@ -52,7 +52,7 @@ module _ {H : Type 0} (R : HeaderReader H) where
     alone =
         walk-ind R b (λ p w. Each Alone w.entries)
         (λ p h k. each_nil Alone)
-        (λ p r o h e. each_cons Alone _ [] (rw (length-drop p b) at (first-unsized (drop p b) r o e)) (each_nil Alone))
+        (λ p r h e. each_cons Alone _ [] (rw (length-drop p b) at (first-unsized (drop p b) r e)) (each_nil Alone))
         (λ p l h e. each_cons Alone _ [] (first-null (drop p b) l e) (each_nil Alone))
         (λ p s h k e ih. each_cons Alone _ (from R b (p + s)).entries (first-sized (drop p b) s e) (ih (p + s) (omega arith) k))
 
@@ -91,7 +91,7 @@ module _ {H : Type 0} where
     parts_in b =
         walk-ind R b (λ p w. Each P w.entries)
         (λ p h k. each_nil P)
-        (λ p r o h e. each_cons P _ [] tt (each_nil P))
+        (λ p r h e. each_cons P _ [] tt (each_nil P))
         (λ p l h e. each_cons P _ [] tt (each_nil P))
         (λ p s h k e ih.
         let len : length (take s (drop p b)) ≡ s = length-take-le s (drop p b) (omega (arith, length-drop p b)) in

@@ -7,7 +7,7 @@ use Rattle.std.proofs.Math.Decide.{dec_le}
 use Rattle.std.proofs.lemmas.Bool.{lt-leb}
 use Rattle.std.proofs.Math.ListN.{length-drop}
 use Rattle.tetra_core.specs.Refusal.{number}
-use Rattle.tetra_core.specs.declared.refusal.Reason.{Reason}
+use Rattle.tetra_core.specs.declared.refusal.Refusal.{Refusal}
 use Rattle.block_rules.specs.Numbers.{least_bits}
 use Rattle.block_rules.specs.declared.extent.Extent.{Extent}
 use Rattle.block_rules.specs.Extent.{extent}
@@ -53,7 +53,7 @@ module _ {H : Type 0} (R : HeaderReader H) (b : List Bool) where
       → (f : Extent) → Bounds (length (drop p b)) f → follow j p (step_by p f) ≡ follow k p (step_by p f)
   unfolding follow step_by step_of pdu_of own_size Bounds
   follow_same p j k e Extent.End h = refl
-  follow_same p j k e (Extent.Unsized r o) h = entry-same p j k e (Pdu.unsized (number r) o) (le_refl least_bits)
+  follow_same p j k e (Extent.Unsized r) h = entry-same p j k e (Pdu.unsized (number r.reason) r.offset) (le_refl least_bits)
   follow_same p j k e (Extent.Null l) h = entry-same p j k e (Pdu.null l) (le_refl least_bits)
   follow_same p j k e (Extent.Sized s) h = entry-same p j k e (Pdu.sized s (read_pdu R (drop p b) s)) h.0
 
@@ -98,9 +98,9 @@ module _ {H : Type 0} (R : HeaderReader H) (b : List Bool) where
   abbrev pub entry_at : ℕ → Pdu H → Walk H
   entry_at p x = entry_then from p x
 
-  pub from-unsized : (p : ℕ) (r : Reason) (o : ℕ) → p ≤ length b → extent (drop p b) ≡ Extent.Unsized r o → from p ≡ entry_at p (Pdu.unsized (number r) o)
+  pub from-unsized : (p : ℕ) (r : Refusal) → p ≤ length b → extent (drop p b) ≡ Extent.Unsized r → from p ≡ entry_at p (Pdu.unsized (number r.reason) r.offset)
   unfolding step_by step_of pdu_of follow
-  from-unsized p r o h e = from_by p (Extent.Unsized r o) h e
+  from-unsized p r h e = from_by p (Extent.Unsized r) h e
 
   pub from_null : (p l : ℕ) → p ≤ length b → extent (drop p b) ≡ Extent.Null l → from p ≡ entry_at p (Pdu.null l)
   unfolding step_by step_of pdu_of follow
@@ -113,7 +113,7 @@ module _ {H : Type 0} (R : HeaderReader H) (b : List Bool) where
   -- what holds of a walk's end, and at each PDU if it holds from 16 bits on, holds of the walk from every bit
   module _ (P : ℕ → Walk H → Type 0)
       (at-end : (p : ℕ) → p ≤ length b → length b < p + least_bits → P p (ended p))
-      (at-unsized : (p : ℕ) (r : Reason) (o : ℕ) → p + least_bits ≤ length b → extent (drop p b) ≡ Extent.Unsized r o → P p (entry_at p (Pdu.unsized (number r) o)))
+      (at-unsized : (p : ℕ) (r : Refusal) → p + least_bits ≤ length b → extent (drop p b) ≡ Extent.Unsized r → P p (entry_at p (Pdu.unsized (number r.reason) r.offset)))
       (at_null : (p l : ℕ) → p + least_bits ≤ length b → extent (drop p b) ≡ Extent.Null l → P p (entry_at p (Pdu.null l)))
       (at-sized : (p s : ℕ) → least_bits ≤ s → p + s ≤ length b → extent (drop p b) ≡ Extent.Sized s
       → ((q : ℕ) → p + least_bits ≤ q → q ≤ length b → P q (from q)) → P p (entry_at p (Pdu.sized s (read_pdu R (drop p b) s)))) where
@@ -121,7 +121,7 @@ module _ {H : Type 0} (R : HeaderReader H) (b : List Bool) where
         → ((q : ℕ) → p + least_bits ≤ q → q ≤ length b → P q (from q)) → P p (from p)
     unfolding Bounds
     by_extent p h Extent.End e k ih = rw (from_end p h (omega arith)) (at-end p h (omega arith))
-    by_extent p h (Extent.Unsized r o) e k ih = rw (from-unsized p r o h e) (at-unsized p r o (omega arith) e)
+    by_extent p h (Extent.Unsized r) e k ih = rw (from-unsized p r h e) (at-unsized p r (omega arith) e)
     by_extent p h (Extent.Null l) e k ih = rw (from_null p l h e) (at_null p l (omega arith) e)
     by_extent p h (Extent.Sized s) e k ih = rw (from-sized p s h e) (at-sized p s k.0 (omega (arith, k.1)) e ih)
 
@@ -140,6 +140,6 @@ module _ {H : Type 0} (R : HeaderReader H) (b : List Bool) where
   covered =
       walk-ind (λ p w. Covers (length b) p w.entries w.rest_at)
       (λ p h k. Covers.end h k)
-      (λ p r o h e. Covers.unsized h)
+      (λ p r h e. Covers.unsized h)
       (λ p l h e. Covers.null h)
       (λ p s h k e ih. Covers.sized h (ih (p + s) (omega arith) k))

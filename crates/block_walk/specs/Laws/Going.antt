@@ -90,7 +90,7 @@ module _ (v : List ℕ) (n p : ℕ) where
   goes_by : IsBlock n v → p ≤ n → (f : Extent) → Bounds (n - p) f → here ≡ by f → Goes (by f)
   unfolding given after after_entry after_end walk_on step_answer entry_of follow go_on step_of pdu_of
   goes_by holds h Extent.End b e = demand_3_of_blocks.walks.steps n v holds p h ∙ rw e
-  goes_by holds h (Extent.Unsized r o) b e = demand_3_of_blocks.walks.steps n v holds p h ∙ rw e
+  goes_by holds h (Extent.Unsized r) b e = demand_3_of_blocks.walks.steps n v holds p h ∙ rw e
   goes_by holds h (Extent.Null l) b e = demand_3_of_blocks.walks.steps n v holds p h ∙ rw e
   goes_by holds h (Extent.Sized s) b e = demand_3_of_blocks.walks.steps n v holds p h ∙ rw (e, after-sized)
 
@@ -113,7 +113,7 @@ module _ (v : List ℕ) (n p : ℕ) where
   leads_by : IsBlock n v → p ≤ n → (f : Extent) → Bounds (n - p) f → here ≡ by f → Leads (by f)
   unfolding Further after after_entry after_end step_answer entry_of step_of pdu_of Bounds
   leads_by holds h Extent.End b e = tt
-  leads_by holds h (Extent.Unsized r o) b e = tt
+  leads_by holds h (Extent.Unsized r) b e = tt
   leads_by holds h (Extent.Null l) b e = tt
   leads_by holds h (Extent.Sized s) b e = rw after-sized (omega (arith, b.0), omega (arith, b.1))
 
@@ -134,7 +134,7 @@ module _ (v : List ℕ) (n p : ℕ) where
   inside_by : IsBlock n v → p ≤ n → (f : Extent) → Bounds (n - p) f → here ≡ by f → Inside (by f)
   unfolding Inside step_of pdu_of
   inside_by holds h Extent.End b e = tt
-  inside_by holds h (Extent.Unsized r o) b e = omega (arith, holds.limit)
+  inside_by holds h (Extent.Unsized r) b e = omega (arith, holds.limit)
   inside_by holds h (Extent.Null l) b e = omega (arith, holds.limit)
   inside_by holds h (Extent.Sized s) b e = omega (arith, holds.limit)
 

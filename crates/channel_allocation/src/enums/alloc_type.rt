@@ -7,10 +7,10 @@ use codec::cases::NoCase;
 
 #[derive(Clone, Copy)]
 pub enum ChanAllocType {
-    Replace,
-    Additional,
-    QuitAndGo,
-    ReplaceWithCarrierSignalling,
+    Replace = 0,
+    Additional = 1,
+    QuitAndGo = 2,
+    ReplaceWithCarrierSignalling = 3,
 }
 
 impl ChanAllocType {
@@ -31,12 +31,7 @@ impl ChanAllocType {
     pub fn into_raw(self) -> u64
         ensures { (result ≡ alloc_type_number self) × (result < 4) }
     {
-        match self {
-            ChanAllocType::Replace => 0,
-            ChanAllocType::Additional => 1,
-            ChanAllocType::QuitAndGo => 2,
-            ChanAllocType::ReplaceWithCarrierSignalling => 3,
-        }
+        self as u64
     }
 }
 

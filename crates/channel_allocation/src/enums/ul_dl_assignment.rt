@@ -7,10 +7,10 @@ use codec::cases::NoCase;
 
 #[derive(Clone, Copy)]
 pub enum UlDlAssignment {
-    Augmented,
-    Dl,
-    Ul,
-    Both,
+    Augmented = 0,
+    Dl = 1,
+    Ul = 2,
+    Both = 3,
 }
 
 impl UlDlAssignment {
@@ -31,12 +31,7 @@ impl UlDlAssignment {
     pub fn into_raw(self) -> u64
         ensures { (result ≡ ul_dl_number self) × (result < 4) }
     {
-        match self {
-            UlDlAssignment::Augmented => 0,
-            UlDlAssignment::Dl => 1,
-            UlDlAssignment::Ul => 2,
-            UlDlAssignment::Both => 3,
-        }
+        self as u64
     }
 }
 

@@ -4,7 +4,7 @@ use Rattle.std.proofs.Common.{sym, ◌∙◌, arith, leb-true, le-leb}
 use Rattle.bits.specs.Bits.{put_bits}
 use Rattle.tetra_core.specs.BitBuffer.{good_window, remaining, moved, moves, bytes_after}
 use Rattle.tetra_core.specs.Refusal.{number, unless, first, first-none, passed}
-use Rattle.tetra_core.specs.Laws.Windows.{good_facts, good_test, move_refused, move_done, bytes-refused, bytes-done}
+use Rattle.tetra_core.specs.Laws.Windows.{good_facts, good_test, move_refused, move_done, bytes-stay, bytes-done}
 use Rattle.tetra_core.specs.declared.bitbuffer.Cursor.{Cursor}
 use Rattle.tetra_core.specs.declared.refusal.Reason.{Reason}
 use Rattle.codec.specs.Write.{refusal_at, write_at, written_at, Free}
@@ -27,7 +27,7 @@ free_test len c j n f = simp (good_test len c f.good, f.value, le-leb n (remaini
 pub write_refused : (s : List ℕ) (c : Cursor) (xs : List Bool) {i j n : ℕ} {r : Reason} → length xs ≡ n → i ≡ j → number r ≡ refusal_at (length s) c i n
     → (record { cursor = c; answer = Err r } ≡ write_at s c j xs) × (s ≡ written_at s c j xs)
 unfolding write_at written_at
-write_refused s c xs l v e = rw (l, ← v) (move_refused _ _ _ _ e, bytes-refused _ _ _ _ e)
+write_refused s c xs l v e = rw (l, ← v) (move_refused _ _ _ _ e, bytes-stay _ _ _ _ e)
 
 pub write_done : (s : List ℕ) (c : Cursor) (xs : List Bool) {i j n r : ℕ} {t : List ℕ} → length xs ≡ n → i ≡ j → r ≡ refusal_at (length s) c i n → r ≡ 0
     → t ≡ put_bits s c.pos xs → (record { cursor = moved c n; answer = (Ok tt) } ≡ write_at s c j xs) × (t ≡ written_at s c j xs)

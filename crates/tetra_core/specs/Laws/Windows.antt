@@ -208,14 +208,18 @@ pub copy_done : (j : ℕ) (d d' c c' : Cursor) → j ≡ 0
 copy_done zero d d' c c' e = refl
 copy_done (suc j) d d' c c' e = absurd (omega arith)
 
-pub bytes-refused : (r : Reason) (j : ℕ) (s t : List ℕ) → number r ≡ j → s ≡ bytes_after j s t
-bytes-refused r zero s t e = absurd ((numbered r).some e)
-bytes-refused r (suc j) s t e = refl
+pub bytes-refused : (r j : ℕ) (s t : List ℕ) → r ≡ j → (r ≡ 0 → ⊥) → s ≡ bytes_after j s t
+bytes-refused r zero s t e h = absurd (h e)
+bytes-refused r (suc j) s t e h = refl
+
+-- the same by a reason
+pub bytes-stay : (r : Reason) (j : ℕ) (s t : List ℕ) → number r ≡ j → s ≡ bytes_after j s t
+bytes-stay r j s t e = bytes-refused (number r) j s t e (numbered r).some
 
 -- what is an error leaves the bytes
 pub bytes-kept : (b : Result (Unit {0}) Reason) (s t : List ℕ) → is_err b ≡ true → s ≡ bytes_after (refused_by b) s t
 bytes-kept (Ok u) s t e = absurd (let n : ◌≡◌ {A = Bool} false true = e in cc)
-bytes-kept (Err r) s t e = bytes-refused r (number r) s t refl
+bytes-kept (Err r) s t e = bytes-stay r (number r) s t refl
 
 pub bytes-done : (j : ℕ) (s t : List ℕ) → j ≡ 0 → t ≡ bytes_after j s t
 bytes-done zero s t e = refl

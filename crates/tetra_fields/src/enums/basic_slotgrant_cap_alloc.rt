@@ -8,22 +8,22 @@ use codec::cases::NoCase;
 
 #[derive(Clone, Copy)]
 pub enum BasicSlotgrantCapAlloc {
-    FirstSubslotGranted,
-    Grant1Slot,
-    Grant2Slots,
-    Grant3Slots,
-    Grant4Slots,
-    Grant5Slots,
-    Grant6Slots,
-    Grant8Slots,
-    Grant10Slots,
-    Grant13Slots,
-    Grant17Slots,
-    Grant24Slots,
-    Grant34Slots,
-    Grant51Slots,
-    Grant68Slots,
-    SecondSubslotGranted,
+    FirstSubslotGranted = 0,
+    Grant1Slot = 1,
+    Grant2Slots = 2,
+    Grant3Slots = 3,
+    Grant4Slots = 4,
+    Grant5Slots = 5,
+    Grant6Slots = 6,
+    Grant8Slots = 7,
+    Grant10Slots = 8,
+    Grant13Slots = 9,
+    Grant17Slots = 10,
+    Grant24Slots = 11,
+    Grant34Slots = 12,
+    Grant51Slots = 13,
+    Grant68Slots = 14,
+    SecondSubslotGranted = 15,
 }
 
 // What a case grants.
@@ -64,24 +64,7 @@ impl BasicSlotgrantCapAlloc {
     pub fn into_raw(self) -> u64
         ensures { (result ≡ cap_alloc_number self) × (result < 16) }
     {
-        match self {
-            BasicSlotgrantCapAlloc::FirstSubslotGranted => 0,
-            BasicSlotgrantCapAlloc::Grant1Slot => 1,
-            BasicSlotgrantCapAlloc::Grant2Slots => 2,
-            BasicSlotgrantCapAlloc::Grant3Slots => 3,
-            BasicSlotgrantCapAlloc::Grant4Slots => 4,
-            BasicSlotgrantCapAlloc::Grant5Slots => 5,
-            BasicSlotgrantCapAlloc::Grant6Slots => 6,
-            BasicSlotgrantCapAlloc::Grant8Slots => 7,
-            BasicSlotgrantCapAlloc::Grant10Slots => 8,
-            BasicSlotgrantCapAlloc::Grant13Slots => 9,
-            BasicSlotgrantCapAlloc::Grant17Slots => 10,
-            BasicSlotgrantCapAlloc::Grant24Slots => 11,
-            BasicSlotgrantCapAlloc::Grant34Slots => 12,
-            BasicSlotgrantCapAlloc::Grant51Slots => 13,
-            BasicSlotgrantCapAlloc::Grant68Slots => 14,
-            BasicSlotgrantCapAlloc::SecondSubslotGranted => 15,
-        }
+        self as u64
     }
 
     // The least case that grants req slots, 0 for the first subslot and 99 for the second. It has the number of the reservation requirement

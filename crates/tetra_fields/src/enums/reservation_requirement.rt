@@ -7,22 +7,22 @@ use codec::cases::NoCase;
 
 #[derive(Clone, Copy)]
 pub enum ReservationRequirement {
-    Req1Subslot,
-    Req1Slot,
-    Req2Slots,
-    Req3Slots,
-    Req4Slots,
-    Req5Slots,
-    Req6Slots,
-    Req8Slots,
-    Req10Slots,
-    Req13Slots,
-    Req17Slots,
-    Req24Slots,
-    Req34Slots,
-    Req51Slots,
-    Req68Slots,
-    ReqOver68,
+    Req1Subslot = 0,
+    Req1Slot = 1,
+    Req2Slots = 2,
+    Req3Slots = 3,
+    Req4Slots = 4,
+    Req5Slots = 5,
+    Req6Slots = 6,
+    Req8Slots = 7,
+    Req10Slots = 8,
+    Req13Slots = 9,
+    Req17Slots = 10,
+    Req24Slots = 11,
+    Req34Slots = 12,
+    Req51Slots = 13,
+    Req68Slots = 14,
+    ReqOver68 = 15,
 }
 
 // What a case asks for.
@@ -63,24 +63,7 @@ impl ReservationRequirement {
     pub fn into_raw(self) -> u64
         ensures { (result ≡ reservation_number self) × (result < 16) }
     {
-        match self {
-            ReservationRequirement::Req1Subslot => 0,
-            ReservationRequirement::Req1Slot => 1,
-            ReservationRequirement::Req2Slots => 2,
-            ReservationRequirement::Req3Slots => 3,
-            ReservationRequirement::Req4Slots => 4,
-            ReservationRequirement::Req5Slots => 5,
-            ReservationRequirement::Req6Slots => 6,
-            ReservationRequirement::Req8Slots => 7,
-            ReservationRequirement::Req10Slots => 8,
-            ReservationRequirement::Req13Slots => 9,
-            ReservationRequirement::Req17Slots => 10,
-            ReservationRequirement::Req24Slots => 11,
-            ReservationRequirement::Req34Slots => 12,
-            ReservationRequirement::Req51Slots => 13,
-            ReservationRequirement::Req68Slots => 14,
-            ReservationRequirement::ReqOver68 => 15,
-        }
+        self as u64
     }
 
     // The least case that is enough for req slots, 0 for one subslot.

@@ -10,10 +10,10 @@ use tetra_core::address::UplinkAddress;
 
 #[derive(Clone, Copy)]
 pub enum UplinkAddrType {
-    Ssi,
-    EventLabel,
-    Ussi,
-    Smi,
+    Ssi = 0,
+    EventLabel = 1,
+    Ussi = 2,
+    Smi = 3,
 }
 
 impl UplinkAddrType {
@@ -34,12 +34,7 @@ impl UplinkAddrType {
     pub fn into_raw(self) -> u64
         ensures { (result ≡ uplink_type_number self) × (result < 4) }
     {
-        match self {
-            UplinkAddrType::Ssi => 0,
-            UplinkAddrType::EventLabel => 1,
-            UplinkAddrType::Ussi => 2,
-            UplinkAddrType::Smi => 3,
-        }
+        self as u64
     }
 
     // The bits of an address of this type.

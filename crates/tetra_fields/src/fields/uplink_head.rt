@@ -1,7 +1,6 @@
 // What MAC-ACCESS and MAC-DATA begin with, clauses 21.4.2.1 and 21.4.2.3: PDU type 1 or 2, fill 1, encrypted 1, address type 2, address.
 ghost use Rattle.std.specs.Prelude.{◌≡◌, ◌+◌, ◌^◌, ◌≤◌, ◌<◌, Err};
 ghost use Rattle.tetra_core.specs.Refusal.{refused_by};
-ghost use Rattle.tetra_core.specs.declared.refusal.Reason.TheVariants.{WrongPduType};
 ghost use Rattle.codec.specs.Ahead.{Ready, ReadsNext};
 ghost use Rattle.codec.specs.Row.{RowIs};
 ghost use Rattle.tetra_fields.specs.UplinkAddress.{uplink_address_refusal};
@@ -41,19 +40,9 @@ fn cut_off(a: Ahead, w: usize) -> Refusal
         return codec::field_past_end(a.at);
     }
     if a.next_bits(w) != 0 {
-        return wrong_type(a);
+        return codec::wrong_type(a.at);
     }
     codec::fields_past_end(&[1, 1, 2], a.left - w, a.at + w)
-}
-
-// The refusal of a header that is ahead, for its PDU type.
-fn wrong_type(a: Ahead) -> Refusal
-    ensures { result ≡ record { reason = WrongPduType; offset = a.at } }
-{
-    Refusal {
-        reason: Reason::WrongPduType,
-        offset: a.at,
-    }
 }
 
 // The head that is ahead of a header whose PDU type has w bits, and what is ahead after it.
@@ -67,7 +56,7 @@ pub fn read_uplink_head(a: Ahead, w: usize) -> Result<(Ahead, UplinkHead), Refus
     }
     let x = a.next_bits(n);
     if x / TYPE != 0 {
-        return Err(wrong_type(a));
+        return Err(codec::wrong_type(a.at));
     }
     let t = UplinkAddrType::from_raw(x);
     let (after, addr) = uplink_address::read_uplink_address(a.advance(n), t)?;

@@ -1,9 +1,12 @@
--- The ACCESS-ASSIGN's words give it back, and it is refused only at offsets that were reached.
-use Rattle.std.specs.Prelude.{ℕ, ◌≤◌, ◌≡◌, refl, List, true, length, ltb, Some}
+-- The ACCESS-ASSIGN's words give it back, it is refused only at offsets that were reached, and so its refusals have a bit that fits a status.
+use Rattle.std.specs.Prelude.{ℕ, ◌≤◌, ◌≡◌, refl, List, true, length, ltb, Some, Err}
 use Rattle.std.proofs.Common.{arith}
 use borrow.Author.Tests.{le-leb, lt-ltb}
+use Rattle.tetra_core.specs.declared.bitbuffer.Cursor.{Cursor}
+use Rattle.tetra_core.specs.declared.bitbuffer.Read.{Read}
+use Rattle.tetra_core.specs.declared.refusal.Refusal.{Refusal}
 use Rattle.access_assign.specs.AccessField.{access_code_number, base_frame_length_number}
-use Rattle.access_assign.specs.AccessAssign.{access_assign_of, read_access_assign}
+use Rattle.access_assign.specs.AccessAssign.{access_assign_of, read_access_assign, access_assign_at}
 use Rattle.access_assign.specs.Laws.AccessField.{access_code-back, base_frame_length-back}
 use Rattle.access_assign.specs.declared.structs.access_field.AccessField.{AccessField}
 use Rattle.access_assign.specs.declared.enums.access_assign_dl_usage.AccessAssignDlUsage.{AccessAssignDlUsage}
@@ -14,7 +17,7 @@ use Rattle.access_assign.specs.declared.access_assign.AccessAssign.{AccessAssign
 use Rattle.access_assign.specs.declared.access_assign.AccessAssign.TheVariants.{DownlinkCommonControlUplinkCommonOnly, DownlinkDefinedUplinkCommonAndAssigned, DownlinkDefinedUplinkAssignedOnly, DownlinkDefinedUplinkDefined}
 use Rattle.tetra_mac.specs.Reply.{value_if}
 use Rattle.tetra_mac.specs.AccessAssign.{dl_kind, dl_traffic, ul_kind, ul_traffic, field_known, field_value, dl_value, ul_value, one_known, two_known, assign_value, access_assign_words, access_assign_known, access_assign_of_words}
-use Rattle.tetra_mac.specs.Laws.Placed.{Placed}
+use Rattle.tetra_mac.specs.Laws.Placed.{Placed, offset-fits}
 use Rattle.tetra_mac.specs.Laws.Reply.{kept, long-enough}
 
 -- the traffic numbers of an ACCESS-ASSIGN are of the types of their fields
@@ -80,3 +83,7 @@ access_assign_long ws e = long-enough 5 ws _ e
 pub access_assign_placed : Placed 0 read_access_assign
 unfolding read_access_assign access_assign_of
 access_assign_placed = λ _ _ _. (tt, (tt, (tt, (tt, omega arith))))
+
+pub access_assign_bit_lem : (s : List ℕ) (c : Cursor) {d : Read AccessAssign} {r : Refusal} → d ≡ access_assign_at s c → d.answer ≡ Err r → r.offset ≤ 65536
+unfolding access_assign_at
+access_assign_bit_lem = offset-fits read_access_assign access_assign_placed

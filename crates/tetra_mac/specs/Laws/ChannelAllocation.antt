@@ -1,12 +1,16 @@
--- The channel allocation's words give it back, and it is refused only at offsets that were reached.
-use Rattle.std.specs.Prelude.{ℕ, min, ◌≤◌, ◌≡◌, refl, List, true, length, None, Option, Some}
+-- The channel allocation's words give it back, it is refused only at offsets that were reached, and so its refusals have a bit that fits a status.
+use Rattle.std.specs.Prelude.{ℕ, min, ◌≤◌, ◌≡◌, refl, List, true, length, None, Option, Some, Err}
 use Rattle.std.proofs.Common.{arith, le-leb}
+use Rattle.tetra_core.specs.declared.bitbuffer.Cursor.{Cursor}
+use Rattle.tetra_core.specs.declared.bitbuffer.Read.{Read}
+use Rattle.tetra_core.specs.declared.refusal.Refusal.{Refusal}
 use Rattle.codec.proofs.Laws.Cases.{flag-back}
-use Rattle.channel_allocation.specs.ChannelAllocation.{alloc_type_number, ul_dl_number, timeslots_number, frame18_number, read_mon_patterns, read_channel_allocation}
+use Rattle.channel_allocation.specs.ChannelAllocation.{alloc_type_number, ul_dl_number, timeslots_number, frame18_number, read_mon_patterns, read_channel_allocation, channel_allocation_at}
 use Rattle.channel_allocation.specs.Laws.ChannelAllocation.{alloc_type-back, ul_dl_back, timeslots_lt, timeslots_back}
 use Rattle.channel_allocation.specs.declared.channel_allocation.ChanAllocElement.{ChanAllocElement}
+use Rattle.tetra_mac.specs.Reply.{number_if}
 use Rattle.tetra_mac.specs.ChannelAllocation.{frame18_present, frame18_value, channel_allocation_words, channel_allocation_known, channel_allocation_value, channel_allocation_of_words}
-use Rattle.tetra_mac.specs.Laws.Placed.{Placed}
+use Rattle.tetra_mac.specs.Laws.Placed.{Placed, offset-fits}
 use Rattle.tetra_mac.specs.Laws.Reply.{kept, value_known, long-enough}
 
 -- the numbers of a channel allocation are of the types of their fields
@@ -16,7 +20,7 @@ pub record ChannelAllocationTyped (e : ChanAllocElement) : Type 0 where
   pub frame18 : frame18_number e.frame18_mon_pattern ≤ 255
 
 frame18-kept : (p : Option ℕ) → frame18_number p ≤ 255 → frame18_value (frame18_present p) (min (frame18_number p) 255) ≡ p
-unfolding frame18_value
+unfolding number_if
 frame18-kept None h = refl
 frame18-kept (Some v) h = rw (kept v 255 h)
 
@@ -53,3 +57,7 @@ channel_allocation-long ws e = long-enough 9 ws _ e
 pub channel_allocation-placed : (o : ℕ) → Placed o read_channel_allocation
 unfolding read_channel_allocation read_mon_patterns
 channel_allocation-placed o = λ _ _ _ _ _ _ _. (omega arith, λ _. ((λ _. (omega arith, tt)), (omega arith, tt)))
+
+pub channel_allocation-bit : (s : List ℕ) (c : Cursor) {d : Read ChanAllocElement} {r : Refusal} → d ≡ channel_allocation_at s c → d.answer ≡ Err r → r.offset ≤ 65536
+unfolding channel_allocation_at
+channel_allocation-bit = offset-fits read_channel_allocation (channel_allocation-placed 0)

@@ -1,13 +1,16 @@
--- The slot grant's words give it back, and it is refused only at offsets that were reached.
-use Rattle.std.specs.Prelude.{ℕ, min, ◌≤◌, ◌≡◌, refl, List, true, length, Some}
+-- The slot grant's words give it back, it is refused only at offsets that were reached, and so its refusals have a bit that fits a status.
+use Rattle.std.specs.Prelude.{ℕ, min, ◌≤◌, ◌≡◌, refl, List, true, length, Some, Err}
 use Rattle.std.proofs.Common.{arith, le-leb}
-use Rattle.tetra_fields.specs.BasicSlotgrant.{cap_alloc_number, read_slotgrant}
+use Rattle.tetra_core.specs.declared.bitbuffer.Cursor.{Cursor}
+use Rattle.tetra_core.specs.declared.bitbuffer.Read.{Read}
+use Rattle.tetra_core.specs.declared.refusal.Refusal.{Refusal}
+use Rattle.tetra_fields.specs.BasicSlotgrant.{cap_alloc_number, read_slotgrant, slotgrant_at}
 use Rattle.tetra_fields.specs.Laws.BasicSlotgrant.{cap_alloc_back}
 use Rattle.tetra_fields.specs.declared.enums.basic_slotgrant_granting_delay.BasicSlotgrantGrantingDelay.{BasicSlotgrantGrantingDelay}
 use Rattle.tetra_fields.specs.declared.enums.basic_slotgrant_granting_delay.BasicSlotgrantGrantingDelay.TheVariants.{CapAllocAtNextOpportunity, DelayNOpportunities, AllocStartsAtOpportunityInFr18, WaitForAnotherSlotgrantMessage}
 use Rattle.tetra_fields.specs.declared.fields.basic_slotgrant.BasicSlotgrant.{BasicSlotgrant}
 use Rattle.tetra_mac.specs.Slotgrant.{delay_kind, delay_count, delay_value, slotgrant_words, slotgrant_known, slotgrant_value, slotgrant_of_words}
-use Rattle.tetra_mac.specs.Laws.Placed.{Placed}
+use Rattle.tetra_mac.specs.Laws.Placed.{Placed, offset-fits}
 use Rattle.tetra_mac.specs.Laws.Reply.{kept, value_known, long-enough}
 
 -- a count of type u8 is kept
@@ -36,3 +39,7 @@ slotgrant_long ws e = long-enough 3 ws _ e
 pub slotgrant_placed : Placed 0 read_slotgrant
 unfolding read_slotgrant
 slotgrant_placed = λ v w. tt
+
+pub slotgrant_bit_lem : (s : List ℕ) (c : Cursor) {d : Read BasicSlotgrant} {r : Refusal} → d ≡ slotgrant_at s c → d.answer ≡ Err r → r.offset ≤ 65536
+unfolding slotgrant_at
+slotgrant_bit_lem = offset-fits read_slotgrant slotgrant_placed

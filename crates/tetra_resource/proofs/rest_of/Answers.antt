@@ -19,4 +19,4 @@ returns-then-no_element c =
 pub returns : goal.returns
 returns c =
     let ws = c.args.words.now in
-    rest_encoded ws c.elements_encoded.result (elements_are ws c.power_of-power_control_element.ensures c.granting_value-slot_granting_element.ensures c.allocation_value-chan_alloc_element.ensures) (sym c.requires.1 ∙ c.if-null.false) c.elements_encoded.ensures
+    rest_encoded ws c.elements_encoded.result (elements_are ws c.power_of-power_control_element.ensures c.element_value-slot_granting_element.ensures c.element_value-chan_alloc_element.ensures) (sym c.requires.1 ∙ c.if-null.false) c.elements_encoded.ensures

@@ -7,13 +7,9 @@ use Rattle.tetra_resource.proofs.tetra_mac_resource_compute_header_len.Goals as 
 pub mac_resource_value-h-requires : goal.mac_resource_value-h-requires
 mac_resource_value-h-requires c = mac_resource_long _ (sym c.mac_resource_known.ensures ∙ c.if-not-mac_resource_known.false)
 
-pub returns-in-Ok : goal.returns-in-Ok
-returns-in-Ok c =
-    count-replied _ _ _ _ c.mac_resource_known.ensures (ap not c.if-not-mac_resource_known.false) c.if-out-lt1.false c.mac_resource_value-h.ensures (rw (← c.compute_header_len.ensures, c.in-Ok.is))
-
-pub returns-in-Err : goal.returns-in-Err
-returns-in-Err c =
-    count-replied _ _ _ _ c.mac_resource_known.ensures (ap not c.if-not-mac_resource_known.false) c.if-out-lt1.false c.mac_resource_value-h.ensures (rw (← c.compute_header_len.ensures, c.in-Err.is, c.number.ensures))
+pub returns : goal.returns
+returns c =
+    count-replied _ _ _ _ c.mac_resource_known.ensures (ap not c.if-not-mac_resource_known.false) c.if-out-lt1.false c.mac_resource_value-h.ensures (rw (← c.compute_header_len.ensures) c.counted.ensures)
 
 pub returns-then-out-lt1 : goal.returns-then-out-lt1
 returns-then-out-lt1 c = count_no_room _ _ _ _ c.if-out-lt1.true

@@ -8,7 +8,7 @@ returns-then-left-lt-LEAST_BITS c = rw (lt-ltb _ _ c.if-left-lt-LEAST_BITS.true)
 
 pub returns-then-pdu_type-ne0 : goal.returns-then-pdu_type-ne0
 unfolding extent_of
-returns-then-pdu_type-ne0 c = rw (le-ltb _ _ c.if-left-lt-LEAST_BITS.false, ne_eqb _ _ c.if-pdu_type-ne0.true)
+returns-then-pdu_type-ne0 c = rw (c.wrong_type.ensures, le-ltb _ _ c.if-left-lt-LEAST_BITS.false, ne_eqb _ _ c.if-pdu_type-ne0.true)
 
 pub returns-then-address_type-eq0 : goal.returns-then-address_type-eq0
 unfolding extent_of

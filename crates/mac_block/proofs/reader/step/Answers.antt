@@ -69,7 +69,7 @@ returns-in-End c = rw (stepped (goal.at.returns-in-End c).After-extent_at (holds
 
 pub returns-in-Unsized : goal.returns-in-Unsized
 unfolding step_of pdu_of step_answer entry_of
-returns-in-Unsized c = rw (stepped (goal.at.returns-in-Unsized c).After-extent_at (holds (goal.at.returns-in-Unsized c).Else-not-good_block), c.in-Unsized.is, (numbered c.in-Unsized.reason).back)
+returns-in-Unsized c = rw (stepped (goal.at.returns-in-Unsized c).After-extent_at (holds (goal.at.returns-in-Unsized c).Else-not-good_block), c.in-Unsized.is, (numbered c.in-Unsized.refusal.reason).back)
 
 pub returns-in-Null : goal.returns-in-Null
 unfolding step_of pdu_of step_answer entry_of

@@ -1,6 +1,8 @@
 use mathlib.Core.Path.{refl}
-use native.Mathlib.Omega.{arith}
+use Rattle.optional_elements.specs.Laws.Allocation.{allocation-bounds, allocation-optional}
 use Rattle.optional_elements.proofs.allocation.allocation_len.Goals as goal
 
-pub returns-in-Some : goal.returns-in-Some
-returns-in-Some c = let n = c.allocation_len.ensures in rw (c.in-Some.is, n.0) (refl, omega arith)
+pub returns : goal.returns
+returns c =
+    let o = allocation-optional c.args.a in
+    rw (c.len.ensures, o.size) (refl, (allocation-bounds c.args.a).1)

@@ -1,25 +1,13 @@
-use mathlib.Core.List.{[], ◌∷◌, append-nil}
 use native.Mathlib.Omega.{arith}
-use lib.Dec.{lit<}
-use Rattle.codec.specs.Row.{cell}
-use Rattle.codec.proofs.Laws.Row.{row_is}
-use Rattle.codec.proofs.Laws.Piece.{row_holds, join_holds}
+use Rattle.optional_elements.specs.Laws.Allocation.{allocation-bounds, allocation-optional}
 use Rattle.optional_elements.proofs.allocation.allocation_piece.Goals as goal
 
-pub channel_allocation_word-requires : goal.channel_allocation_word-requires
-channel_allocation_word-requires c = rw c.in-Some.is at c.requires
+pub flagged-requires : goal.flagged-requires
+flagged-requires c =
+    let o = allocation-optional c.args.a in
+    (rw o.refusal c.requires, rw o.size (omega (arith, (allocation-bounds c.args.a).1)))
 
-pub joined-requires : goal.joined-requires
-joined-requires c =
-    let l = c.allocation_len.ensures in
-    (lit< tt, rw l.0 c.channel_allocation_word.ensures.small, omega arith)
-
-pub returns-in-None : goal.returns-in-None
-returns-in-None c = rw (c.in-None.is, append-nil) (row_holds (row_is (cell 1 0 ∷ []) (lit< tt, tt)))
-
-pub returns-in-Some : goal.returns-in-Some
-returns-in-Some c =
-    let l = c.allocation_len.ensures.0 in
-    let x = c.channel_allocation_word.ensures in
-    rw c.in-Some.is
-    (join_holds (row_holds (row_is (cell 1 1 ∷ []) (lit< tt, tt))) (record { is = rw l x.is; size = l; small = rw l x.small }) c.joined.ensures)
+pub returns : goal.returns
+returns c =
+    let o = allocation-optional c.args.a in
+    rw (o.bits, o.size) at c.flagged.ensures

@@ -1,4 +1,5 @@
+use Rattle.optional_elements.specs.Laws.Allocation.{allocation-optional}
 use Rattle.optional_elements.proofs.allocation.allocation_refusal.Goals as goal
 
-pub returns-in-Some : goal.returns-in-Some
-returns-in-Some c = rw c.in-Some.is c.channel_allocation_refusal.ensures
+pub returns : goal.returns
+returns c = rw (allocation-optional c.args.a).refusal c.refusal.ensures

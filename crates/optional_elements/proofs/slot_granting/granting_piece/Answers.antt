@@ -1,15 +1,13 @@
-use mathlib.Core.List.{[], ◌∷◌}
-use lib.Dec.{lit<}
-use Rattle.codec.specs.Row.{cell}
-use Rattle.codec.proofs.Laws.Row.{row_is}
-use Rattle.codec.proofs.Laws.Piece.{row_holds, flagged-holds}
+use native.Mathlib.Omega.{arith}
+use Rattle.optional_elements.specs.Laws.SlotGranting.{granting-bounds, granting-optional}
 use Rattle.optional_elements.proofs.slot_granting.granting_piece.Goals as goal
 
-pub slotgrant_word-requires : goal.slotgrant_word-requires
-slotgrant_word-requires c = rw c.in-Some.is at c.requires
+pub flagged-requires : goal.flagged-requires
+flagged-requires c =
+    let o = granting-optional c.args.g in
+    (rw o.refusal c.requires, rw o.size (omega (arith, (granting-bounds c.args.g).1)))
 
-pub returns-in-None : goal.returns-in-None
-returns-in-None c = rw c.in-None.is (row_holds (row_is (cell 1 0 ∷ []) (lit< tt, tt)))
-
-pub returns-in-Some : goal.returns-in-Some
-returns-in-Some c = rw c.in-Some.is (flagged-holds c.slotgrant_word.ensures)
+pub returns : goal.returns
+returns c =
+    let o = granting-optional c.args.g in
+    rw (o.bits, o.size) at c.flagged.ensures

@@ -1,4 +1,5 @@
+use Rattle.optional_elements.specs.Laws.SlotGranting.{granting-optional}
 use Rattle.optional_elements.proofs.slot_granting.granting_refusal.Goals as goal
 
-pub returns-in-Some : goal.returns-in-Some
-returns-in-Some c = rw c.in-Some.is c.slotgrant_refusal.ensures
+pub returns : goal.returns
+returns c = rw (granting-optional c.args.g).refusal c.refusal.ensures

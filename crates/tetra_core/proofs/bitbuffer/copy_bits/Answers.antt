@@ -1,14 +1,14 @@
 use mathlib.Core.Path.{sym, ◌∙◌}
 use native.Mathlib.Omega.{arith}
 use Rattle.tetra_core.specs.BitBuffer.{copy_bits, copied}
-use Rattle.tetra_core.specs.Laws.Windows.{copyable, copy_refused, copy_done, bytes-refused, bytes-done}
+use Rattle.tetra_core.specs.Laws.Windows.{copyable, copy_refused, copy_done, bytes-stay, bytes-done}
 use Rattle.tetra_core.proofs.bitbuffer.copy_bits.Goals as goal
 
 pub returns-in-Err : goal.returns-in-Err
 unfolding copy_bits copied
 returns-in-Err c =
     let e = c.in-Err.ensures in
-    (copy_refused _ _ _ _ _ _ e, bytes-refused _ _ _ _ e)
+    (copy_refused _ _ _ _ _ _ e, bytes-stay _ _ _ _ e)
 
 pub copy_span-requires : goal.copy_span-requires
 copy_span-requires c =

@@ -1,14 +1,14 @@
 use mathlib.Core.Path.{sym, ◌∙◌}
 use native.Mathlib.Omega.{arith}
 use Rattle.tetra_core.specs.BitBuffer.{copy_bits_from_bitarr, from_bitarr}
-use Rattle.tetra_core.specs.Laws.Windows.{gatherable, move_refused, move_done, bytes-refused, bytes-done}
+use Rattle.tetra_core.specs.Laws.Windows.{gatherable, move_refused, move_done, bytes-stay, bytes-done}
 use Rattle.tetra_core.proofs.bitbuffer.copy_bits_from_bitarr.Goals as goal
 
 pub returns-in-Err : goal.returns-in-Err
 unfolding copy_bits_from_bitarr from_bitarr
 returns-in-Err c =
     let e = c.in-Err.ensures in
-    (move_refused _ _ _ _ e, bytes-refused _ _ _ _ e)
+    (move_refused _ _ _ _ e, bytes-stay _ _ _ _ e)
 
 pub gather_all-requires : goal.gather_all-requires
 gather_all-requires c = let r = gatherable _ _ _ (sym c.in-Ok.ensures) in let g = r.good in omega arith

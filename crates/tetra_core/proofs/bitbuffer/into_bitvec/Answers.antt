@@ -2,14 +2,14 @@ use mathlib.Core.Path.{sym}
 use native.Mathlib.Omega.{arith}
 use lib.Seq.{length-take-le}
 use Rattle.tetra_core.specs.BitBuffer.{into_bitvec, bitvec}
-use Rattle.tetra_core.specs.Laws.Windows.{takeable, read-refused, read_done, bytes-refused, bytes-done}
+use Rattle.tetra_core.specs.Laws.Windows.{takeable, read-refused, read_done, bytes-stay, bytes-done}
 use Rattle.tetra_core.proofs.bitbuffer.into_bitvec.Goals as goal
 
 pub returns-in-Err : goal.returns-in-Err
 unfolding into_bitvec bitvec
 returns-in-Err c =
     let e = c.in-Err.ensures in
-    (rw c.refused.ensures (read-refused _ _ _ _ _ e), bytes-refused _ _ _ _ e)
+    (rw c.refused.ensures (read-refused _ _ _ _ _ e), bytes-stay _ _ _ _ e)
 
 pub overflow_sub-n : goal.overflow_sub-n
 overflow_sub-n c = let r = takeable _ _ _ (sym c.in-Ok.ensures) in let g = r.good in omega arith

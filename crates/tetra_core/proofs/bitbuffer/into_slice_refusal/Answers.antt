@@ -1,34 +1,30 @@
-use mathlib.Core.Path.{◌≡◌, sym, ◌∙◌}
-use mathlib.Core.Bool.{true}
+use Prim.Native.Nat.{ℕ}
+use mathlib.Core.Path.{◌≡◌, sym}
+use mathlib.Core.List.{[], ◌∷◌}
 use native.Mathlib.Omega.{arith}
+use lib.Dec.{leb}
 use borrow.Author.Tests.{le-leb, lt-leb}
-use Rattle.tetra_core.specs.Refusal.{first}
-use Rattle.tetra_core.specs.BitBuffer.{good_window, into_slice_refusal}
-use Rattle.tetra_core.specs.Laws.Windows.{good_facts}
-use Rattle.tetra_core.proofs.bitbuffer.into_slice_refusal.Goals.{Else-not-good_window}
+use Rattle.tetra_core.specs.declared.bitbuffer.Cursor.{Cursor}
+use Rattle.tetra_core.specs.Quantity.{octets_of}
+use Rattle.tetra_core.specs.Refusal.{unless, first, first_last, first-parts, stopped, went_on}
+use Rattle.tetra_core.specs.BitBuffer.{good_window, remaining, room_refusal, into_slice_refusal}
+use Rattle.tetra_core.specs.Laws.Windows.{roomy}
 use Rattle.tetra_core.proofs.bitbuffer.into_slice_refusal.Goals as goal
 
-good : (c : Else-not-good_window) → good_window c.args.len c.args.c ≡ true
-good c = sym c.good_window.ensures ∙ c.if-not-good_window.false
+-- the room for what is read stands behind what the window has
+parts : (len : ℕ) (c : Cursor) (n room : ℕ) → into_slice_refusal len c n room ≡ first (room_refusal 1 len c n ∷ unless (leb (octets_of n) room) 2 ∷ [])
+unfolding into_slice_refusal room_refusal
+parts len c n room = first-parts (unless (good_window len c) 13 ∷ unless (leb n (remaining c)) 1 ∷ []) (unless (leb (octets_of n) room) 2 ∷ [])
 
-pub returns-then-not-good_window : goal.returns-then-not-good_window
-unfolding into_slice_refusal first
-returns-then-not-good_window c = rw (sym c.good_window.ensures ∙ c.if-not-good_window.true)
-
-pub overflow_sub-c : goal.overflow_sub-c
-overflow_sub-c c = (good_facts _ _ (good (goal.at.overflow_sub-c c).Else-not-good_window)).ends
-
-pub returns-then-c-num_bits : goal.returns-then-c-num_bits
-unfolding into_slice_refusal first
-returns-then-c-num_bits c = rw (good (goal.at.returns-then-c-num_bits c).Else-not-good_window, lt-leb _ _ c.if-c-num_bits.true)
+pub returns-in_err-room_refusal : goal.returns-in_err-room_refusal
+returns-in_err-room_refusal c =
+    rw (parts _ _ _ _) (stopped c.from_residual.result _ c.room_refusal.ensures c.in_err-room_refusal.was c.from_residual.ensures.1)
 
 pub overflow_add-num_bits : goal.overflow_add-num_bits
-overflow_add-num_bits c = let g = good_facts _ _ (good (goal.at.overflow_add-num_bits c).Else-not-good_window) in omega arith
+overflow_add-num_bits c = let r = roomy 0 _ _ _ (sym c.in_ok-room_refusal.ensures) in let g = r.good in omega arith
 
 pub returns-then-room-num_bits : goal.returns-then-room-num_bits
-unfolding into_slice_refusal first
-returns-then-room-num_bits c = rw (good (goal.at.returns-then-room-num_bits c).Else-not-good_window, le-leb _ _ c.if-c-num_bits.false, lt-leb _ _ c.if-room-num_bits.true)
+returns-then-room-num_bits c = rw (parts _ _ _ _, went_on _ c.room_refusal.ensures c.in_ok-room_refusal.was, lt-leb _ _ c.if-room-num_bits.true, first_last)
 
 pub returns : goal.returns
-unfolding into_slice_refusal first
-returns c = rw (good (goal.at.returns c).Else-not-good_window, le-leb _ _ c.if-c-num_bits.false, le-leb _ _ c.if-room-num_bits.false)
+returns c = rw (parts _ _ _ _, went_on _ c.room_refusal.ensures c.in_ok-room_refusal.was, le-leb _ _ c.if-room-num_bits.false, first_last)

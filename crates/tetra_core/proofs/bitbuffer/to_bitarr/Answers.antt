@@ -1,14 +1,14 @@
 use mathlib.Core.Path.{sym, ◌∙◌}
 use native.Mathlib.Omega.{arith}
 use Rattle.tetra_core.specs.BitBuffer.{to_bitarr, bitarr}
-use Rattle.tetra_core.specs.Laws.Windows.{roomy, read-refused, read_done, bytes-refused, bytes-done}
+use Rattle.tetra_core.specs.Laws.Windows.{roomy, read-refused, read_done, bytes-stay, bytes-done}
 use Rattle.tetra_core.proofs.bitbuffer.to_bitarr.Goals as goal
 
 pub returns-in-Err : goal.returns-in-Err
 unfolding to_bitarr bitarr
 returns-in-Err c =
     let e = c.in-Err.ensures in
-    (rw c.refused.ensures (read-refused _ _ _ _ _ e), bytes-refused _ _ _ _ e)
+    (rw c.refused.ensures (read-refused _ _ _ _ _ e), bytes-stay _ _ _ _ e)
 
 pub spread_all-requires : goal.spread_all-requires
 spread_all-requires c = let r = roomy 0 _ _ _ (sym c.in-Ok.ensures) in let g = r.good in omega arith

@@ -10,6 +10,6 @@ returns c =
       c.from_raw-2.ensures,
       c.number16.ensures,
       c.number8.ensures,
-      c.frame18_value.ensures,
+      c.number_if.ensures,
       c.number8-2.ensures,
     )

@@ -8,13 +8,9 @@ pub channel_allocation_value-e-requires : goal.channel_allocation_value-e-requir
 channel_allocation_value-e-requires c =
     channel_allocation-long _ (sym c.channel_allocation_known.ensures ∙ c.if-not-channel_allocation_known.false)
 
-pub returns-in-Ok : goal.returns-in-Ok
-returns-in-Ok c =
-    count-replied _ _ _ _ c.channel_allocation_known.ensures (ap not c.if-not-channel_allocation_known.false) c.if-out-lt1.false c.channel_allocation_value-e.ensures (rw (← c.compute_len.ensures, c.in-Ok.is))
-
-pub returns-in-Err : goal.returns-in-Err
-returns-in-Err c =
-    count-replied _ _ _ _ c.channel_allocation_known.ensures (ap not c.if-not-channel_allocation_known.false) c.if-out-lt1.false c.channel_allocation_value-e.ensures (rw (← c.compute_len.ensures, c.in-Err.is, c.number.ensures))
+pub returns : goal.returns
+returns c =
+    count-replied _ _ _ _ c.channel_allocation_known.ensures (ap not c.if-not-channel_allocation_known.false) c.if-out-lt1.false c.channel_allocation_value-e.ensures (rw (← c.compute_len.ensures) c.counted.ensures)
 
 pub returns-then-out-lt1 : goal.returns-then-out-lt1
 returns-then-out-lt1 c = count_no_room _ _ _ _ c.if-out-lt1.true

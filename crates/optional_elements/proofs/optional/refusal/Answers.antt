@@ -1,0 +1,4 @@
+use Rattle.optional_elements.proofs.optional.refusal.Goals as goal
+
+pub returns-in-Some : goal.returns-in-Some
+returns-in-Some g c = rw c.in-Some.is c.refusal.ensures
