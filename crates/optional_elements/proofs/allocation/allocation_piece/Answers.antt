@@ -1,18 +1,9 @@
 use mathlib.Core.List.{[], ◌∷◌, append-nil}
-use native.Mathlib.Omega.{arith}
 use lib.Dec.{lit<}
 use Rattle.codec.specs.Row.{cell}
 use Rattle.codec.proofs.Laws.Row.{row_is}
 use Rattle.codec.proofs.Laws.Piece.{row_holds, join_holds}
 use Rattle.optional_elements.proofs.allocation.allocation_piece.Goals as goal
-
-pub channel_allocation_word-requires : goal.channel_allocation_word-requires
-channel_allocation_word-requires c = rw c.in-Some.is at c.requires
-
-pub joined-requires : goal.joined-requires
-joined-requires c =
-    let l = c.allocation_len.ensures in
-    (lit< tt, rw l.0 c.channel_allocation_word.ensures.small, omega arith)
 
 pub returns-in-None : goal.returns-in-None
 returns-in-None c = rw (c.in-None.is, append-nil) (row_holds (row_is (cell 1 0 ∷ []) (lit< tt, tt)))

@@ -5,9 +5,6 @@ use Rattle.codec.proofs.Laws.Row.{row_is}
 use Rattle.codec.proofs.Laws.Piece.{row_holds, flagged-holds}
 use Rattle.optional_elements.proofs.slot_granting.granting_piece.Goals as goal
 
-pub slotgrant_word-requires : goal.slotgrant_word-requires
-slotgrant_word-requires c = rw c.in-Some.is at c.requires
-
 pub returns-in-None : goal.returns-in-None
 returns-in-None c = rw c.in-None.is (row_holds (row_is (cell 1 0 ∷ []) (lit< tt, tt)))
 
