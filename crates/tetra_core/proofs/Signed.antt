@@ -1,12 +1,11 @@
 -- A signed offset in the machine's 64 bits: how far a negative one reaches back.
-use Prim.Native.Nat.{ℕ, zero, suc, ◌-◌, ◌^◌, ◌<◌}
-use mathlib.Core.Path.{◌≡◌, refl}
+use Prim.Native.Nat.{ℕ, zero, suc, ◌^◌, ◌<◌}
+use mathlib.Core.Path.{◌≡◌, refl, ◌∙◌}
 use mathlib.Core.Bool.{true}
 use native.Mathlib.Omega.{arith}
-use native.Mathlib.Nat.{zero-add}
-use borrow.Author.Tests.{lt-ltb, ltb-true}
+use borrow.Author.Tests.{ltb-true}
 use borrow.Author.Rules.{sfits_of}
-use lib.IntN.{ℤ, pos, negsuc, neg_ℤ, ◌+ℤ◌, ◌-ℤ◌}
+use lib.IntN.{ℤ, pos, negsuc, neg_ℤ, ◌+ℤ◌, ◌-ℤ◌, +ℤ_one, +ℤ_idl, neg_ℤ-neg_ℤ}
 use lib.Signed.{mag, lt_z}
 use mir.Syntax.{w64}
 use mir.Val.{SFits}
@@ -19,13 +18,10 @@ pub record Back (z : ℤ) : Type 0 where
 
 next : (k : ℕ) → negsuc k +ℤ pos 1 ≡ neg_ℤ (pos k)
 next zero = refl
-next (suc j) =
-    let e : suc (suc j) - suc 1 ≡ j = omega arith in
-    rw (lt-ltb 1 (suc (suc j)) (omega arith), e)
+next (suc j) = +ℤ_one (negsuc (suc j))
 
 back : (k : ℕ) → pos 0 -ℤ neg_ℤ (pos k) ≡ pos k
-back zero = refl
-back (suc j) = rw zero-add
+back k = +ℤ_idl (neg_ℤ (neg_ℤ (pos k))) ∙ neg_ℤ-neg_ℤ (pos k)
 
 magnitude : (k : ℕ) → k < 2 ^ 63 → mag (neg_ℤ (pos k)) < 2 ^ 63
 magnitude zero h = h

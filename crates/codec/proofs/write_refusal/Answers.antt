@@ -1,20 +1,19 @@
-use mathlib.Core.Path.{◌≡◌, refl}
+use mathlib.Core.Path.{◌≡◌, refl, sym, ◌∙◌}
 use mathlib.Core.Bool.{true}
 use borrow.Author.Tests.{le-leb, lt-leb}
 use Rattle.tetra_core.specs.BitBuffer.{good_window}
 use Rattle.tetra_core.specs.Refusal.{first, first_skip, first_last, stopped, went_on}
 use Rattle.tetra_core.specs.Laws.Windows.{good_facts}
-use Rattle.codec.proofs.Laws.Header.{bad-seen, good-seen}
 use Rattle.codec.specs.Write.{refusal_at}
 use Rattle.codec.proofs.write_refusal.Goals.{Else-not-good_window}
 use Rattle.codec.proofs.write_refusal.Goals as goal
 
 good : (c : Else-not-good_window) → good_window c.args.len c.args.c ≡ true
-good c = good-seen _ _ c.good_window.ensures c.if-not-good_window.false-raw
+good c = sym c.good_window.ensures ∙ c.if-not-good_window.false
 
 pub returns-then-not-good_window : goal.returns-then-not-good_window
 unfolding refusal_at first
-returns-then-not-good_window c = rw (bad-seen _ _ c.good_window.ensures c.if-not-good_window.true-raw)
+returns-then-not-good_window c = rw (sym c.good_window.ensures ∙ c.if-not-good_window.true)
 
 pub returns-in_err-judged : goal.returns-in_err-judged
 unfolding refusal_at

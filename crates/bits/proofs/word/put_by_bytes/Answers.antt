@@ -1,6 +1,5 @@
 use mathlib.Core.List.{List}
 use mathlib.Core.Bool.{Bool}
-use native.Mathlib.Nat.{pow-zero, div-one}
 use lib.ListN.{length-set}
 use lib.Pow.{shr-shr}
 use borrow.Author.Rules.{rules}
@@ -38,10 +37,3 @@ loop-done-preserved c =
           (put_bits_step a.s.now l.s a.pos l.done at o k (8 - o - k) (a.v / 2 ^ r)
           (rw (shr-shr a.v r k, ← left) l.invariant.2) (omega arith) (omega arith) (omega arith) (omega arith)),
     )
-
-pub returns : goal.returns
-returns c =
-    let a = c.args in
-    let e : c.loop-done.done ≡ a.n = omega arith in
-    let z : a.n - c.loop-done.done ≡ 0 = omega arith in
-    c.loop-done.invariant.2 ∙ ap (λ (xs : List Bool). put_bits a.s.now a.pos xs) (rw (z, e, pow-zero, div-one) refl)

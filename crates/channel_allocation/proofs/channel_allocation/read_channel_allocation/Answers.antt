@@ -8,7 +8,7 @@ use Rattle.codec.specs.Reader.{done, refuse, choose, parse, next}
 use Rattle.codec.proofs.Laws.Reader.{parse_bind}
 use Rattle.codec.proofs.Laws.Header.{parsed_word, read}
 use Rattle.codec.specs.Ahead.{Held, part_out}
-use Rattle.codec.proofs.Laws.Ahead.{held_on, ready_on, ahead_short, onward, onward_then, on-from}
+use Rattle.codec.proofs.Laws.Ahead.{held_on, ahead_short, onward, onward_then, on-from}
 use Rattle.channel_allocation.specs.ChannelAllocation.{element_of, read_channel_allocation}
 use Rattle.channel_allocation.specs.declared.channel_allocation.MonPatterns.{MonPatterns}
 use Rattle.channel_allocation.proofs.channel_allocation.read_channel_allocation.Goals.{After-read_mon_patterns}
@@ -34,10 +34,6 @@ returns-then-x-ne0 c = record {
   };
   onward = tt;
 }
-
-pub read_mon_patterns-requires : goal.read_mon_patterns-requires
-read_mon_patterns-requires c =
-    rw c.advance.ensures (ready_on 23 4 c.requires (omega arith) c.if-a-lt-HEAD_BITS.false)
 
 -- it is read up to its patterns, which the answer r is of
 to_patterns : (c : After-read_mon_patterns) {r : Result (Ahead × MonPatterns) Refusal} (h : List Bool) → Held h c.args.a → c.read_mon_patterns.result ≡ r

@@ -1,7 +1,7 @@
 use native.Mathlib.Omega.{arith}
 use borrow.Author.Tests.{eq-eqb, ne_eqb}
 use Rattle.codec.proofs.Laws.Header.{alone}
-use Rattle.codec.proofs.Laws.Ahead.{held_on, ready_on, ahead_field-short, onward, onward_then}
+use Rattle.codec.proofs.Laws.Ahead.{held_on, ahead_field-short, onward, onward_then}
 use Rattle.channel_allocation.specs.ChannelAllocation.{read_mon_patterns}
 use Rattle.channel_allocation.proofs.channel_allocation.read_mon_patterns.Goals as goal
 
@@ -39,14 +39,6 @@ returns-then-b-lt2 c =
       };
       onward = tt;
     }
-
-pub next_bits-v-requires : goal.next_bits-v-requires
-next_bits-v-requires c =
-    (rw c.advance-b.ensures (ready_on 2 2 c.requires (omega arith) c.if-a-lt2.false), omega arith)
-
-pub advance-requires : goal.advance-requires
-advance-requires c =
-    (rw c.advance-b.ensures (ready_on 2 2 c.requires (omega arith) c.if-a-lt2.false), c.if-b-lt2.false)
 
 pub returns : goal.returns
 unfolding read_mon_patterns

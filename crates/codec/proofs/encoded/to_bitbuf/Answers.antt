@@ -3,6 +3,3 @@ use Rattle.codec.proofs.encoded.to_bitbuf.Goals as goal
 
 pub returns : goal.returns
 returns g c = encoded_written _ _ c.of.ensures c.write.ensures
-
-pub write-requires : goal.write-requires
-write-requires g c = c.of.ensures.sound

@@ -26,6 +26,3 @@ unfolding write_at written_at
 returns c =
     let a = c.args in
     rw (with_size a.e a.length_ind a.fill_bits, ← c.size-size.ensures, ← c.write_refusal-judged.ensures) (c.moved_unless.ensures, c.put_header.ensures)
-
-pub size-size-requires : goal.size-size-requires
-size-size-requires c = c.requires.1.few

@@ -1,16 +1,11 @@
 use Prim.Native.Nat.{◌-◌}
-use mathlib.Core.Path.{◌≡◌, refl, sym, ap, ◌∙◌}
+use mathlib.Core.Path.{◌≡◌, sym, ap, ◌∙◌}
 use native.Mathlib.Omega.{arith}
-use borrow.Author.Rules.{rules}
-use lib.Count.{trailing_le}
 use Rattle.bits.proofs.Laws.Reads.{bits_at_zero}
 use Rattle.block_rules.specs.Read.{before_last_one}
 use Rattle.mac_block.specs.LastOne.{last_one}
 use Rattle.mac_block.proofs.LastOnes.{turn_zeros, turn_place, turn_found}
 use Rattle.mac_block.proofs.fill.last_one_of.Goals as goal
-
-pub loop-end-init : goal.loop-end-init
-loop-end-init c = (search rules, search rules, refl)
 
 pub overflow_sub-result-then-x-ne0 : goal.overflow_sub-result-then-x-ne0
 overflow_sub-result-then-x-ne0 c =
@@ -40,6 +35,3 @@ returns c =
     let a = c.args in
     let e : l.end - a.from ≡ 0 = omega arith in
     rw (e, bits_at_zero) at l.invariant.2
-
-pub overflow_cast-result : goal.overflow_cast-result
-overflow_cast-result c = record { fits = omega (arith, trailing_le 64 c.get_bits-x.result) }

@@ -1,7 +1,6 @@
 use mathlib.Core.Bool.{false}
 use mathlib.Core.Path.{◌≡◌, ◌∙◌}
 use native.Mathlib.Omega.{arith}
-use Rattle.codec.proofs.Laws.Encoded.{settable}
 use Rattle.mac_resource.specs.MacResource.{header_len}
 use Rattle.block_rules.specs.Writer.{add_check}
 use Rattle.mac_block.proofs.writer.add_check.Goals as goal
@@ -12,9 +11,3 @@ returns c =
     let x = c.encode_to_add-e.ensures.encodes 0 false (omega arith) in
     let l : c.size.result ≡ header_len c.args.pdu.header = omega (arith, c.size.ensures, x.bit_count) in
     c.check_sized.ensures ∙ rw (l, x.number)
-
-pub size-requires : goal.size-requires
-size-requires c = (settable c.encode_to_add-e.ensures).few
-
-pub check_sized-requires : goal.check_sized-requires
-check_sized-requires c = omega (arith, c.size.ensures, (settable c.encode_to_add-e.ensures).few)

@@ -1,11 +1,12 @@
 use Prim.Native.Nat.{◌+◌, ◌-◌}
-use mathlib.Core.Path.{◌≡◌}
+use mathlib.Core.Path.{◌≡◌, refl}
 use native.Mathlib.Omega.{arith}
 use borrow.Author.Tests.{lt-ltb}
 use lib.Pow.{shr_lt}
 use Rattle.block_rules.specs.Writer.{finish_bits}
 use Rattle.block_rules.proofs.Laws.WrittenBack.{length-finish}
-use Rattle.mac_block.proofs.Puts.{put-behind, closing-is, finish_more}
+use Rattle.codec.proofs.Pieces.{put-behind}
+use Rattle.mac_block.proofs.Puts.{closing-is, finish_more}
 use Rattle.mac_block.proofs.writer.put_closing.Goals as goal
 
 pub returns-then-left-lt-LEAST_BITS : goal.returns-then-left-lt-LEAST_BITS
@@ -33,4 +34,4 @@ returns c =
       closing-is 64 (omega arith) (omega arith),
       ← finish_more 64 a.left (omega arith) (omega arith),
     )
-    (put-behind _ _ 64 _ _ (length-finish 64) (omega arith))
+    (put-behind _ _ 64 _ _ (length-finish 64) (omega arith) refl refl)

@@ -1,9 +1,7 @@
 use Prim.Native.Nat.{◌+◌, ◌-◌, ◌/◌}
 use mathlib.Core.Path.{◌≡◌, ◌∙◌}
-use mathlib.Core.Bool.{not}
 use native.Mathlib.Omega.{arith}
 use borrow.Rule.Slice.PartMut.{put_mid}
-use lib.Dec.{eqb}
 use lib.ListN.{length}
 use Rattle.bits.specs.Bits.{put_bits}
 use Rattle.bits.proofs.Laws.Reads.{length_bits_at}
@@ -11,18 +9,9 @@ use Rattle.codec.specs.Encoded.{size_of, bits_with}
 use Rattle.codec.proofs.Laws.Encoded.{with_size}
 use Rattle.block_rules.specs.Writer.{flag_of, fill_bits}
 use Rattle.block_rules.proofs.Laws.Lists.{length-fill}
-use Rattle.mac_block.proofs.Puts.{flag_is, length_part, put-part, put_three}
+use Rattle.mac_block.proofs.Puts.{flag_is, put-part, put_three}
 use borrow.Author.Rules.{rules}
 use Rattle.mac_block.proofs.writer.put_pdu.Goals as goal
-
-pub put_header-requires : goal.put_header-requires
-put_header-requires c =
-    let a = c.args in
-    let l = length_part a.block.now (a.bit / 8) in
-    let d = c.requires in (
-      d.fine.few,
-      λ _. record { placed = d.fine.placed; fit = (d.fine.sound a.length_ind (not (eqb a.fill 0)) d.length).fit d.free; room = omega arith; near = omega arith },
-    )
 
 pub returns : goal.returns
 returns c =

@@ -1,5 +1,5 @@
 use mathlib.Core.Path.{◌∙◌, sym}
-use Rattle.codec.proofs.Laws.Ahead.{ready_less, onward, onward-none}
+use Rattle.codec.proofs.Laws.Ahead.{onward, onward-none}
 use Rattle.mac_resource.specs.Address.{address_most, read_address}
 use Rattle.mac_resource.proofs.Words.{address-none, address_parsed, address-short}
 use Rattle.mac_resource.proofs.address.read_address.Goals as goal
@@ -16,10 +16,6 @@ returns-then-a-n c =
       of = λ h e. record { means = rw (c.fields_past_end.ensures, address-short c.args.t e (rw c.address_len-n.ensures.0 at c.if-a-n.true)) };
       onward = tt;
     }
-
-pub advance-requires : goal.advance-requires
-advance-requires c =
-    (ready_less _ c.requires c.address_len-n.ensures.1, c.if-a-n.false)
 
 pub returns : goal.returns
 returns c =

@@ -1,15 +1,13 @@
 use Prim.Native.Nat.{◌≤◌}
-use mathlib.Core.Path.{refl, sym, ◌∙◌}
-use native.Mathlib.Omega.{arith}
+use mathlib.Core.Path.{sym, ◌∙◌}
 use Rattle.codec.specs.Header.{Word, within}
 use Rattle.codec.proofs.Laws.Header.{parsed_word}
-use Rattle.codec.proofs.Laws.Ahead.{ready_less, next-read}
 use Rattle.optional_elements.specs.Optional.{optional}
 use Rattle.optional_elements.specs.PowerControl.{read_power}
 use Rattle.optional_elements.specs.SlotGranting.{read_granting}
 use Rattle.optional_elements.specs.Allocation.{read_allocation}
 use Rattle.optional_elements.specs.GrantAndAllocation.{read_grant_and_allocation}
-use Rattle.optional_elements.specs.Elements.{flags_len, elements_most, read_elements}
+use Rattle.optional_elements.specs.Elements.{flags_len, read_elements}
 use Rattle.optional_elements.specs.Laws.Elements.{flags_clear}
 use Rattle.optional_elements.proofs.elements.read_elements.Goals.{Then-no_element}
 use Rattle.optional_elements.proofs.elements.read_elements.Goals as goal
@@ -23,14 +21,3 @@ pub returns-then-no_element : goal.returns-then-no_element
 unfolding read_elements read_power read_grant_and_allocation read_granting read_allocation optional
 returns-then-no_element c =
     record { means = rw (c.no_elements.ensures, c.advance.ensures, parsed_word read_elements (clear (goal.at.returns-then-no_element c).Then-no_element).0) }
-
-pub returns : goal.returns
-returns c =
-    let l = c.load.ensures in
-    record { means = sym (next-read c.read_each.ensures l.0 l.2 refl) }
-
-pub advance-requires : goal.advance-requires
-advance-requires c = (c.requires.2, (clear (goal.at.advance-requires c).Then-no_element).1)
-
-pub read_each-requires : goal.read_each-requires
-read_each-requires c = ready_less elements_most c.load.ensures.1 (omega arith)

@@ -1,24 +1,17 @@
+use Rattle.optional_elements.specs.SlotGranting.{read_granting}
 use native.Mathlib.Omega.{arith}
 use Rattle.std.proofs.lemmas.Result.{err_from_is_err_and}
-use Rattle.codec.proofs.Laws.Reader.{parse_bind}
-use Rattle.codec.proofs.Laws.Header.{read}
-use Rattle.codec.proofs.Laws.Ahead.{ready_less, onward_then, on-from}
-use Rattle.optional_elements.specs.SlotGranting.{granting_most}
-use Rattle.optional_elements.specs.Allocation.{allocation_most}
+use Rattle.codec.proofs.Laws.Ahead.{on-from}
+use Rattle.optional_elements.specs.Allocation.{allocation_most, read_allocation}
 use Rattle.optional_elements.specs.GrantAndAllocation.{grant_and_allocation_most, read_grant_and_allocation}
+use Rattle.optional_elements.proofs.Parts.{first_refused, second_refused, both_read}
 use Rattle.optional_elements.proofs.grant_and_allocation.read_grant_and_allocation.Goals as goal
-
-pub read_granting-requires : goal.read_granting-requires
-read_granting-requires c = ready_less granting_most c.requires (omega arith)
 
 pub returns-in_err-behind : goal.returns-in_err-behind
 unfolding read_grant_and_allocation
 returns-in_err-behind c =
     let d = err_from_is_err_and c.from_residual.result c.from_residual.ensures.1 in
-    rw (d.1, d.2) (record {
-      of = λ h e. record { means = rw (parse_bind, read (c.read_granting.ensures.of h e) c.in_err-behind.was) };
-      onward = tt;
-    })
+    rw (d.1, d.2) (first_refused read_granting read_allocation (λ g a. record { slot_granting_element = g; chan_alloc_element = a }) grant_and_allocation_most c.read_granting.ensures c.in_err-behind.was)
 
 pub read_allocation-requires : goal.read_allocation-requires
 read_allocation-requires c = (on-from c.read_granting.ensures c.in_ok-behind.was).ready allocation_most c.requires
@@ -26,32 +19,9 @@ read_allocation-requires c = (on-from c.read_granting.ensures c.in_ok-behind.was
 pub returns-in_err-after : goal.returns-in_err-after
 unfolding read_grant_and_allocation
 returns-in_err-after c =
-    let o = on-from c.read_granting.ensures c.in_ok-behind.was in
     let d = err_from_is_err_and c.from_residual-in_err-after.result c.from_residual-in_err-after.ensures.1 in
-    rw (d.1, d.2) (record {
-      of = λ h e. record {
-        means = rw (
-          parse_bind,
-          read (c.read_granting.ensures.of h e) c.in_ok-behind.was,
-          parse_bind,
-          read (c.read_allocation.ensures.of h (o.held h e)) c.in_err-after.was,
-        );
-      };
-      onward = tt;
-    })
+    rw (d.1, d.2) (second_refused read_granting read_allocation (λ g a. record { slot_granting_element = g; chan_alloc_element = a }) grant_and_allocation_most c.read_granting.ensures c.in_ok-behind.was c.read_allocation.ensures c.in_err-after.was)
 
 pub returns : goal.returns
 unfolding read_grant_and_allocation
-returns c =
-    let o = on-from c.read_granting.ensures c.in_ok-behind.was in
-    record {
-      of = λ h e. record {
-        means = rw (
-          parse_bind,
-          read (c.read_granting.ensures.of h e) c.in_ok-behind.was,
-          parse_bind,
-          read (c.read_allocation.ensures.of h (o.held h e)) c.in_ok-after.was,
-        );
-      };
-      onward = onward_then grant_and_allocation_most o (on-from c.read_allocation.ensures c.in_ok-after.was) (omega arith);
-    }
+returns c = both_read read_granting read_allocation (λ g a. record { slot_granting_element = g; chan_alloc_element = a }) grant_and_allocation_most c.read_granting.ensures c.in_ok-behind.was c.read_allocation.ensures c.in_ok-after.was (omega arith)

@@ -1,16 +1,15 @@
 use Rattle.std.specs.Prelude.{None, Some}
-use Prim.Native.Nat.{ℕ, suc, ◌+◌, ◌-◌, ◌^◌, ◌≤◌, ◌<◌}
+use Prim.Native.Nat.{ℕ, suc, ◌+◌, ◌-◌, ◌≤◌, ◌<◌}
 use mathlib.Core.Path.{◌≡◌, refl}
 use mathlib.Core.Bool.{true, false}
 use native.Mathlib.Omega.{arith}
 use borrow.Author.Tests.{ltb-true, lt-ltb, le-ltb}
-use lib.Dec.{T}
 use lib.IntN.{ℤ, pos, negsuc, nat_abs, ◌+ℤ◌}
-use lib.Signed.{mag, lt_z, non_neg}
+use lib.Signed.{mag, lt_z}
 use mir.Facts.{to_z-of_z}
 use Rattle.tetra_core.specs.BitBuffer.{place_of}
 use Rattle.tetra_core.proofs.Signed.{Back, back-of}
-use Rattle.tetra_core.proofs.bitbuffer.place_of.Goals.{Else-offset-lt0, Then-offset-lt0}
+use Rattle.tetra_core.proofs.bitbuffer.place_of.Goals.{Then-offset-lt0}
 use Rattle.tetra_core.proofs.bitbuffer.place_of.Goals as goal
 
 -- ---- by the sign of the offset
@@ -27,15 +26,10 @@ back_by p (negsuc k) n h =
     let e : p - 1 - k ≡ p - suc k = omega arith in
     rw (le-ltb p (suc k) (omega arith), e)
 
-record Ahead (p : ℕ) (z : ℤ) : Type 0 where
-  whole : T (non_neg z)
-  small : nat_abs z < 2 ^ 63
-  place : Some (p + nat_abs z) ≡ place_of (pos p +ℤ z)
-
-ahead : (p : ℕ) (z : ℤ) → lt_z z (pos 0) ≡ false → mag z < 2 ^ 63 → Ahead p z
+ahead : (p : ℕ) (z : ℤ) → lt_z z (pos 0) ≡ false → Some (p + nat_abs z) ≡ place_of (pos p +ℤ z)
 unfolding place_of
-ahead p (pos k) n h = record { whole = tt; small = h; place = refl }
-ahead p (negsuc k) n h = absurd (let e : ◌≡◌ {A = ℕ} 0 1 = cc in omega arith)
+ahead p (pos k) n = refl
+ahead p (negsuc k) n = absurd (let e : ◌≡◌ {A = ℕ} 0 1 = cc in omega arith)
 
 -- ---- the needs
 
@@ -44,21 +38,6 @@ negative c = rw (to_z-of_z c.ranges.offset) at c.if-offset-lt0.true
 
 offset : (c : Then-offset-lt0) → Back c.args.offset
 offset c = back-of _ (negative c) c.ranges.offset
-
-forward : (c : Else-offset-lt0) → Ahead c.args.pos c.args.offset
-forward c = ahead _ _ (rw (to_z-of_z c.ranges.offset) at c.if-offset-lt0.false) c.ranges.offset.sfits
-
-pub overflow_add-back : goal.overflow_add-back
-overflow_add-back c = rw (to_z-of_z c.ranges.offset) (offset c).next_fits
-
-pub overflow_sub-back : goal.overflow_sub-back
-overflow_sub-back c = rw (to_z-of_z c.ranges.offset, to_z-of_z (offset c).next_fits) (offset c).back_fits
-
-pub overflow_cast-back : goal.overflow_cast-back
-overflow_cast-back c =
-    let h = c.ranges.offset.sfits in
-    rw (to_z-of_z c.ranges.offset, to_z-of_z (offset c).next_fits, to_z-of_z (offset c).back_fits, (offset c).back_is)
-    (tt, record { fits = omega arith })
 
 pub returns-then-pos-back : goal.returns-then-pos-back
 returns-then-pos-back c =
@@ -73,13 +52,5 @@ returns-then-offset-lt0 c =
     (back_by _ c.args.offset (negative (goal.at.returns-then-offset-lt0 c).Then-offset-lt0)
     (rw (to_z-of_z c.ranges.offset, to_z-of_z o.next_fits, to_z-of_z o.back_fits, o.back_is) at c.if-pos-back.false))
 
-pub overflow_cast-result : goal.overflow_cast-result
-overflow_cast-result c =
-    let f = forward c in
-    rw (to_z-of_z c.ranges.offset) (f.whole, record { fits = omega arith })
-
-pub overflow_add-result : goal.overflow_add-result
-overflow_add-result c = let f = forward c in rw (to_z-of_z c.ranges.offset) (record { fits = omega arith })
-
 pub returns : goal.returns
-returns c = rw (to_z-of_z c.ranges.offset) (forward c).place
+returns c = rw (to_z-of_z c.ranges.offset) (ahead _ _ (rw (to_z-of_z c.ranges.offset) at c.if-offset-lt0.false))

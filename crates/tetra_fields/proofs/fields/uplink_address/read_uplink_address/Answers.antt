@@ -10,9 +10,6 @@ returns-then-a-n c = record {
   onward = tt;
 }
 
-pub uplink_of-requires : goal.uplink_of-requires
-uplink_of-requires c = rw (← c.width-n.ensures.0) c.next_bits-v.ensures.small
-
 pub returns : goal.returns
 unfolding read_uplink_address
 returns c =

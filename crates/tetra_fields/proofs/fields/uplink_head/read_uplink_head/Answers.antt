@@ -11,7 +11,7 @@ use Rattle.codec.proofs.Laws.Words.{field-word, parse-word}
 use Rattle.codec.specs.Cases.{flag}
 use Rattle.codec.specs.Header.{Word}
 use Rattle.codec.specs.Ahead.{Held, part_out}
-use Rattle.codec.proofs.Laws.Ahead.{held_on, ready_on, onward, onward_then, next-read, on-from}
+use Rattle.codec.proofs.Laws.Ahead.{held_on, onward, onward_then, next-read, on-from}
 use Rattle.tetra_fields.specs.UplinkAddress.{uplink_type_number}
 use Rattle.tetra_fields.specs.Laws.UplinkAddress.{uplink_type-again}
 use Rattle.tetra_fields.specs.UplinkHead.{read_uplink_head, read_uplink_body}
@@ -31,10 +31,6 @@ returns-then-x-ne0 c = record {
   };
   onward = tt;
 }
-
-pub read_uplink_address-requires : goal.read_uplink_address-requires
-read_uplink_address-requires c =
-    rw c.advance.ensures (ready_on _ 24 c.requires.0 (omega arith) c.if-a-n.false)
 
 -- the head of a number x before its address
 abbrev head : ℕ → UplinkAddress → UplinkHead

@@ -1,4 +1,0 @@
-use Rattle.codec.proofs.fields_past_end.Goals as goal
-
-pub returns : goal.returns
-returns c = rw c.reach.ensures.0
