@@ -1,7 +1,7 @@
 -- What the code does a byte or a word at a time, in terms of bits.
 use Prim.Native.Nat.{ℕ, zero, suc, ◌+◌, ◌-◌, ◌*◌, ◌/◌, ◌%◌, ◌^◌, ◌≤◌, ◌<◌}
 use mathlib.Core.Path.{◌≡◌, refl, sym, ap, ◌∙◌}
-use mathlib.Core.List.{List, ◌∷◌, ◌++◌, append_assoc}
+use mathlib.Core.List.{List, [], ◌∷◌, ◌++◌, append_assoc}
 use mathlib.Core.Bool.{Bool}
 use native.Mathlib.Nat.{zero-add, add-zero, add-sub_of_le, lt_of_lt_of_le, mod-mod, mod-eq_of_lt, mul_assoc, add-mul, add_assoc, pow-zero, div-one}
 use native.Mathlib.Omega.{arith}
@@ -11,15 +11,15 @@ use lib.Bits.{bit_or, or_shifted}
 use lib.Pow.{pow-add, pow_mono, high, low, shr_lt, shr_mod}
 use lib.Arith.{digits_lt}
 use Rattle.std.proofs.Common.{add-one}
-use Rattle.std.specs.Int.{w64, from_be_bytes}
+use Rattle.std.specs.Int.{w64, bytes_high_first, from_be_bytes}
 use Rattle.std.proofs.lemmas.Nat.{be_bytes_8}
-use Rattle.std.proofs.lemmas.List.{get_or-drop, get_or-take}
+use Rattle.std.proofs.lemmas.List.{append-nil, get_or-drop, get_or-take}
 use Rattle.std.specs.List.{fold}
 use Rattle.std.proofs.lemmas.List.Sums.{fold_more}
 use Rattle.bits.proofs.Laws.Shifts.{push_is, shl_is, within-is}
 use Rattle.bits.specs.Bits.{val, bits_of_nat, bits_of, pack, splice, bits_at, get_bits, put_bits, patch, Leading, Bytes}
 use Rattle.bits.proofs.Laws.Values.{val-append, val_lt, length-bits_of_nat, val-bits_of_nat, bits_of_nat-val, bits_of_nat-add}
-use Rattle.bits.proofs.Laws.Bytes.{bits_of_high_first, bits_of_cons, length_bits_of, bits_of_append, drop_bits_of, bits_of_inj, bytes-take, bytes-set}
+use Rattle.bits.proofs.Laws.Bytes.{bits_of_high_first, bits_of_cons, length_bits_of, bits_of_append, drop_bits_of, pack_bits_of, bits_of_inj, bytes-take, bytes-set}
 use Rattle.bits.proofs.Laws.Splice.{splice_mid}
 use Rattle.bits.proofs.Laws.Reads.{bits_at_bytes, get_bits_lt, get_bits-zero, at-is, get_is, bits_at_add, length_bits_at, get_bits-part}
 use Rattle.bits.proofs.Laws.Writes.{put_is, length-put_bits, bytes-put_bits, bits_of_put_bits, put_bits-append}
@@ -256,53 +256,54 @@ splice-part q a k b r xs l =
     right : splice (length q + length a) xs ((q ++ a) ++ (k ++ (b ++ r))) ≡ q ++ ((a ++ (xs ++ b)) ++ r)
     right = splice_mid (length q + length a) (q ++ a) k xs (b ++ r) (length-append q a) l ∙ simp append_assoc
 
-pub put_bits-word : (s : List ℕ) (i o n m v : ℕ) → o + (n + m) ≡ 64 → i + 8 ≤ length s
-    → put_bits s (8 * i) (bits_of_nat 64 (patch (get_bits s (8 * i) 64) n m v)) ≡ put_bits s (8 * i + o) (bits_of_nat n v)
-put_bits-word s i o n m v e h =
-    rw (word, put_is s (8 * i) (a ++ (xs ++ b)), put_is s (8 * i + o) xs) (ap (λ (bs : List Bool). pack (length s) bs) spliced)
+-- a word of w bits from p on, written back with v in the place of n of them
+pub put_bits-word : (s : List ℕ) (p w o n m v : ℕ) → o + (n + m) ≡ w → p + w ≤ 8 * length s
+    → put_bits s p (bits_of_nat w (patch (get_bits s p w) n m v)) ≡ put_bits s (p + o) (bits_of_nat n v)
+put_bits-word s p w o n m v e h =
+    rw (word, put_is s p (a ++ (xs ++ b)), put_is s (p + o) xs) (ap (λ (bs : List Bool). pack (length s) bs) spliced)
   where
     a : List Bool
-    a = bits_at s (8 * i) o
+    a = bits_at s p o
 
     k : List Bool
-    k = bits_at s (8 * i + o) n
+    k = bits_at s (p + o) n
 
     b : List Bool
-    b = bits_at s (8 * i + o + n) m
+    b = bits_at s (p + o + n) m
 
     xs : List Bool
     xs = bits_of_nat n v
 
     q : List Bool
-    q = take (8 * i) (bits_of s)
+    q = take p (bits_of s)
 
     r : List Bool
-    r = drop 64 (drop (8 * i) (bits_of s))
+    r = drop w (drop p (bits_of s))
 
     la : length a ≡ o
-    la = length_bits_at s (8 * i) o (omega arith)
+    la = length_bits_at s p o (omega arith)
 
     lk : length k ≡ n
-    lk = length_bits_at s (8 * i + o) n (omega arith)
+    lk = length_bits_at s (p + o) n (omega arith)
 
     lb : length b ≡ m
-    lb = length_bits_at s (8 * i + o + n) m (omega arith)
+    lb = length_bits_at s (p + o + n) m (omega arith)
 
     lx : length xs ≡ n
     lx = length-bits_of_nat n v
 
-    lq : length q ≡ 8 * i
-    lq = length-take-le (8 * i) (bits_of s) (omega (arith, length_bits_of s))
+    lq : length q ≡ p
+    lq = length-take-le p (bits_of s) (omega (arith, length_bits_of s))
 
-    cut64 : bits_at s (8 * i) 64 ≡ a ++ (k ++ b)
-    cut64 =
-        ap (λ (j : ℕ). bits_at s (8 * i) j) (sym e) ∙ bits_at_add s (8 * i) o (n + m) ∙ ap (λ (l : List Bool). a ++ l) (bits_at_add s (8 * i + o) n m)
+    whole_cut : bits_at s p w ≡ a ++ (k ++ b)
+    whole_cut =
+        ap (λ (j : ℕ). bits_at s p j) (sym e) ∙ bits_at_add s p o (n + m) ∙ ap (λ (l : List Bool). a ++ l) (bits_at_add s (p + o) n m)
 
     whole : val (a ++ (k ++ b)) ≡ val a * 2 ^ (n + m) + (val k * 2 ^ m + val b)
     whole = simp (val-append, length-append, lk, lb)
 
-    x-is : get_bits s (8 * i) 64 ≡ val a * 2 ^ (n + m) + (val k * 2 ^ m + val b)
-    x-is = get_is s (8 * i) 64 ∙ ap val cut64 ∙ whole
+    x-is : get_bits s p w ≡ val a * 2 ^ (n + m) + (val k * 2 ^ m + val b)
+    x-is = get_is s p w ∙ ap val whole_cut ∙ whole
 
     vk : val k < 2 ^ n
     vk = rw lk at (val_lt k)
@@ -313,27 +314,49 @@ put_bits-word s i o n m v e h =
     low-lt : val k * 2 ^ m + val b < 2 ^ (n + m)
     low-lt = rw (pow-add 2 n m) (digits_lt vk vb)
 
-    top : get_bits s (8 * i) 64 / 2 ^ (n + m) ≡ val a
+    top : get_bits s p w / 2 ^ (n + m) ≡ val a
     top = rw x-is (high (val a) (n + m) low-lt)
 
-    bottom : get_bits s (8 * i) 64 % 2 ^ m ≡ val b
+    bottom : get_bits s p w % 2 ^ m ≡ val b
     bottom =
         rw (x-is, pow-add 2 n m, ← mul_assoc, ← add_assoc (val a * 2 ^ n * 2 ^ m) (val k * 2 ^ m) (val b), ← add-mul (val a * 2 ^ n) (val k) (2 ^ m))
         (low (val a * 2 ^ n + val k) m vb)
 
-    y-is : patch (get_bits s (8 * i) 64) n m v ≡ val (a ++ (xs ++ b))
+    y-is : patch (get_bits s p w) n m v ≡ val (a ++ (xs ++ b))
     y-is = rw (patch_def, top, bottom) (simp (val-append, length-append, lx, lb, val-bits_of_nat))
 
-    len64 : length (a ++ (xs ++ b)) ≡ 64
-    len64 = simp (length-append, la, lx, lb) e
+    lw : length (a ++ (xs ++ b)) ≡ w
+    lw = simp (length-append, la, lx, lb) e
 
-    word : bits_of_nat 64 (patch (get_bits s (8 * i) 64) n m v) ≡ a ++ (xs ++ b)
-    word = rw y-is (rw len64 at (bits_of_nat-val (a ++ (xs ++ b))))
+    word : bits_of_nat w (patch (get_bits s p w) n m v) ≡ a ++ (xs ++ b)
+    word = rw y-is (rw lw at (bits_of_nat-val (a ++ (xs ++ b))))
 
     shape : bits_of s ≡ q ++ ((a ++ (k ++ b)) ++ r)
     shape =
-        sym (take-append-drop (8 * i) (bits_of s))
-        ∙ ap (λ (l : List Bool). q ++ l) (sym (take-append-drop 64 (drop (8 * i) (bits_of s))) ∙ ap (λ (l : List Bool). l ++ r) (sym (at-is s (8 * i) 64) ∙ cut64))
+        sym (take-append-drop p (bits_of s))
+        ∙ ap (λ (l : List Bool). q ++ l) (sym (take-append-drop w (drop p (bits_of s))) ∙ ap (λ (l : List Bool). l ++ r) (sym (at-is s p w) ∙ whole_cut))
 
-    spliced : splice (8 * i) (a ++ (xs ++ b)) (bits_of s) ≡ splice (8 * i + o) xs (bits_of s)
-    spliced = rw shape (rw lq at (splice-part q a k b r xs (lx ∙ sym lk))) ∙ ap (λ (j : ℕ). splice (8 * i + j) xs (bits_of s)) la
+    spliced : splice p (a ++ (xs ++ b)) (bits_of s) ≡ splice (p + o) xs (bits_of s)
+    spliced = rw shape (rw lq at (splice-part q a k b r xs (lx ∙ sym lk))) ∙ ap (λ (j : ℕ). splice (p + j) xs (bits_of s)) la
+
+-- all bytes that are written
+pub put_all : (s ys : List ℕ) → length ys ≡ length s → Bytes ys → ys ≡ put_bits s 0 (bits_of ys)
+put_all s ys l h =
+    sym (rw (put_is s 0 (bits_of ys), spliced, ← l) (pack_bits_of ys h))
+  where
+    spliced : splice 0 (bits_of ys) (bits_of s) ≡ bits_of ys
+    spliced =
+        rw (append-nil (bits_of s), append-nil (bits_of ys)) at
+        (splice_mid 0 [] (bits_of s) (bits_of ys) [] refl (simp (length_bits_of, l)))
+
+-- the last n of a number's eight bytes
+pub low_bytes : (n x : ℕ) → n ≤ 8 → bits_of (drop (8 - n) (bytes_high_first 8 x)) ≡ bits_of_nat (8 * n) x
+low_bytes n x h =
+    rw (← drop_bits_of (8 - n) (bytes_high_first 8 x) (omega arith), bits_of_high_first 8 x, cut_x)
+    (drop_at (bits_of_nat (8 * (8 - n)) (x / 2 ^ (8 * n))) (bits_of_nat (8 * n) x) (8 * (8 - n)) (length-bits_of_nat _ _))
+  where
+    e : 64 ≡ 8 * (8 - n) + 8 * n
+    e = omega arith
+
+    cut_x : bits_of_nat 64 x ≡ bits_of_nat (8 * (8 - n)) (x / 2 ^ (8 * n)) ++ bits_of_nat (8 * n) x
+    cut_x = ap (λ (k : ℕ). bits_of_nat k x) e ∙ bits_of_nat-add (8 * (8 - n)) (8 * n) x

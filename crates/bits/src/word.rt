@@ -139,31 +139,33 @@ fn put_in_byte(s: &mut [u8], pos: usize, n: usize, v: u64)
     s[at] = byte_replaced(b, n, 8 - pos % 8 - n, v);
 }
 
-// The n low bits of v put into s from pos on.
-fn put_by_bytes(s: &mut [u8], pos: usize, n: usize, v: u64)
-    requires { (pos + n ≤ 8 * length s.old) × (n ≤ 64) × (pos ≤ 65536) }
-    ensures { s.new ≡ put_bits s.old pos (bits_of_nat n v) }
+// All bytes of a slice that is shorter than a word, by the low bytes of x.
+fn store_all(s: &mut [u8], x: u64)
+    requires { length s.old < 8 }
+    ensures { s.new ≡ put_bits s.old 0 (bits_of_nat (8 * length s.old) x) }
 {
-    let mut done: usize = 0;
-    while done < n {
-        let p = pos + done;
-        let at = p / 8;
-        let room = 8 - p % 8;
-        let k = room.min(n - done);
-        let b = s[at];
-        s[at] = byte_replaced(b, k, room - k, v >> (n - done - k));
-        done += k;
-    }
+    s.copy_from_slice(&x.to_be_bytes()[8 - s.len()..]);
 }
 
-// As put_by_bytes, by whole words where there are eight bytes. It has many callers, and is too long to be copied into one of them.
+// The number v put into the n bits from pos on of a slice that is shorter than a word. Copied into put_by_words it would make that slower for words.
+#[inline(never)]
+fn put_in_all(s: &mut [u8], pos: usize, n: usize, v: u64)
+    requires { (length s.old < 8) × (pos + n ≤ 8 * length s.old) × (0 < n) × (v < 2 ^ n) }
+    ensures { s.new ≡ put_bits s.old pos (bits_of_nat n v) }
+{
+    let x = load_all(s);
+    let o = 64 - 8 * s.len() + pos;
+    store_all(s, word_replaced(x, o, n, v));
+}
+
+// The number v put into the n bits from pos on. It has many callers, and is too long to be copied into one of them.
 #[inline(never)]
 pub fn put_by_words(s: &mut [u8], pos: usize, n: usize, v: u64)
     requires { (pos + n ≤ 8 * length s.old) × (n ≤ 64) × (pos ≤ 65536) × (v < 2 ^ n) × (0 < n) }
     ensures { s.new ≡ put_bits s.old pos (bits_of_nat n v) }
 {
     if s.len() < 8 {
-        put_by_bytes(s, pos, n, v);
+        put_in_all(s, pos, n, v);
         return;
     }
     let at = word_start(s.len(), pos);
