@@ -355,8 +355,8 @@ fn encoded_alone(words: &[u64]) -> EncodedHeader
 {
     let h = bare_of(words);
     let front = resource::front_alone(h);
-    let before = resource::alone_refusal(h);
-    resource::whole(before, front, rest_of(words, resource::is_null_pdu(h)))
+    let rest = rest_of(words, resource::is_null_pdu(h));
+    resource::whole(resource::alone_refusal(h), front, rest)
 }
 
 // The same into a block.
@@ -366,8 +366,8 @@ pub fn encoded_to_add(words: &[u64]) -> EncodedHeader
 {
     let h = bare_of(words);
     let front = resource::front_to_add(h);
-    let before = resource::null_added(h);
-    resource::whole(before, front, rest_of(words, resource::is_null_pdu(h)))
+    let rest = rest_of(words, resource::is_null_pdu(h));
+    resource::whole(resource::null_added(h), front, rest)
 }
 
 pub fn tetra_mac_resource_read(
