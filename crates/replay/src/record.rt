@@ -5,7 +5,7 @@ ghost use Rattle.replay.specs.declared.record.TheConstants.{MOST_BYTES};
 use crate::difference::{Difference, first_unequal};
 use crate::list::{Malformed, Reader};
 use arrayvec::ArrayVec;
-use replay_calls::answers::{MOST_WORDS, Stop, Words, reason_of};
+use replay_calls::answers::{MOST_WORDS, Stop, UNTOUCHED, Words, reason_of};
 use replay_calls::block_calls::BlockCall;
 use replay_calls::calls::Call;
 use replay_calls::given::Given;
@@ -93,8 +93,8 @@ pub(crate) struct Record<'a> {
     // The words and the bytes that the call has to leave.
     words: Words,
     left: &'a [u8],
-    // The bits from pos at which the original was cut off, in pairs: for how many windows, and the bit. None where it was not cut off.
-    stops: ArrayVec<u64, MOST_WORDS>,
+    // Where the original was cut off, the bits from pos at which it was, in pairs: for how many windows, and the bit.
+    stops: Option<Words>,
     ghost short: { length bytes.now ≤ MOST_BYTES },
 }
 
@@ -143,7 +143,7 @@ impl<'a> TryFrom<&'a [u8]> for Record<'a> {
             numbers: list.numbers()?,
             words: Words::untouched(),
             left: bytes,
-            stops: ArrayVec::new(),
+            stops: None,
         };
         record.read_answer(&mut list)?;
         if list.is_empty() {
@@ -160,21 +160,20 @@ impl<'a> Record<'a> {
     fn read_answer(&mut self, list: &mut Reader<'a>) -> Result<(), Malformed> {
         let answered = matches!(self.class, Class::Completed) || always_answers(self.call);
         let cut_off = matches!(self.class, Class::CutOff);
-        let recorded = if answered || cut_off {
-            list.numbers()?
-        } else {
-            ArrayVec::new()
-        };
+        let mut recorded = Words::untouched();
+        if answered || cut_off {
+            recorded.put(&list.numbers()?);
+        }
         if answered {
-            self.words.put(&recorded);
+            self.words = recorded;
         } else if matches!(self.call, Call::Read(_) | Call::Write(_) | Call::Bits(_)) {
             self.words.put(&[self.first.pos as u64]);
         }
         if cut_off {
-            self.stops = recorded;
+            self.stops = Some(recorded);
             // They are given for no more windows than there are.
             let windows = self.windows;
-            if self.stop(windows).is_some() {
+            if self.stop(windows) != Some(UNTOUCHED) {
                 return Err(Malformed);
             }
         }
@@ -197,17 +196,19 @@ impl<'a> Record<'a> {
         Cursor { end, ..self.first }
     }
 
-    // The bit at which the original was cut off in window i, where one is recorded.
+    // The bit at which the original was cut off in window i, where it was. Behind the pairs that are recorded it is a word that is not put, and 0
+    // behind all that there is room for.
     fn stop(&self, i: u64) -> Option<u64> {
+        let stops = self.stops.as_ref()?;
         let mut before = i;
-        let (pairs, _) = self.stops.as_chunks::<2>();
+        let (pairs, _) = stops.words.as_chunks::<2>();
         for [windows, bit] in pairs {
             if before < *windows {
                 return Some(*bit);
             }
             before -= *windows;
         }
-        None
+        Some(0)
     }
 
     // The call on window i.
