@@ -6,7 +6,7 @@ use Rattle.std.proofs.Common.{sym, ap, ◌∙◌, arith}
 use Rattle.tetra_core.specs.declared.refusal.Reason.{Reason}
 use Rattle.tetra_core.specs.declared.refusal.Reason.TheVariants.{ReadPastEnd, WritePastEnd, ValueTooWide, WrongPduType, ExtendedCarrier, Augmented, UsageMarker, Length, NullPdu, EncryptedAddress, NoFrame18Pattern, NoFillBit, BadWindow, DelayCount}
 
--- the numbers of document 01, "Refusals"
+-- the numbers of document 01, "Refusal table"
 abbrev pub number : Reason → ℕ
 number ReadPastEnd = 1
 number WritePastEnd = 2
@@ -144,11 +144,6 @@ first-behind (suc m ∷ ms) ns = refl
 
 -- ---- of an answer
 
--- what is refused has a number other than 0
-pub refused-not : {A : Type 0} (b : Result A Reason) {r : Reason} → b ≡ Err r → refused_by b ≡ 0 → ⊥
-refused-not (Ok a) e z = absurd (let n : ◌≡◌ {A = Bool} true false = cc in cc)
-refused-not (Err q) e z = (numbered q).some z
-
 -- the exit of `?`, by the answer b: the entry j that is refused, as a is, is the call's, whatever stands behind it
 pub stopped : {A B : Type 0} (b : Result B Reason) (ns : List ℕ) {a : Result A Reason} {r : Reason} {j : ℕ} → refused_by a ≡ j → a ≡ Err r
     → IsErrAnd b (λ q. q ≡ r) → refused_by b ≡ first (j ∷ ns)
@@ -166,11 +161,6 @@ went_on ns e w = first_skip _ ns (sym e ∙ ap refused_by w)
 pub first-and : (a b : Result (Unit {0}) Reason) → refused_by (result_and a b) ≡ first (refused_by a ∷ refused_by b ∷ [])
 first-and (Ok t) b = sym (first_skip 0 _ refl ∙ first_last _)
 first-and (Err r) b = sym (first-here _ _ (numbered r).some)
-
--- nothing refuses it
-pub accepted : (b : Result (Unit {0}) Reason) → refused_by b ≡ 0 → b ≡ Ok tt
-accepted (Ok tt) e = refl
-accepted (Err r) e = absurd ((numbered r).some e)
 
 -- what is no error is refused by nothing
 pub refused-none : (b : Result (Unit {0}) Reason) → is_err b ≡ false → refused_by b ≡ 0

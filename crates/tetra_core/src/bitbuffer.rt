@@ -237,7 +237,7 @@ pub fn peek_bits_startoffset(s: &[u8], c: Cursor, offset: usize, num_bits: usize
     peek_at(s, c, p, num_bits)
 }
 
-// BadWindow, or the reason given where the window has fewer than num_bits bits from its cursor on, if so.
+// Why num_bits bits are not in the window from its cursor on, if so: it is not good, or, for the reason given, it has fewer.
 fn room_refusal(len: usize, c: Cursor, num_bits: usize, reason: Reason) -> Result<(), Reason>
     ensures { refused_by result ≡ room_refusal (number reason) len c num_bits }
 {

@@ -1,10 +1,9 @@
 -- Windows: what a good one gives, what is known where a call is not refused, and the forms of an answer.
-use Rattle.std.specs.Prelude.{ℕ, zero, suc, ◌+◌, ◌-◌, ◌*◌, ◌^◌, ◌≤◌, ◌<◌, ◌≡◌, refl, List, [], ◌∷◌, Bool, true, false, ◌&&◌, length, leb, ltb, Err, None, Ok, Option, Result, Some}
-use Rattle.std.specs.Result.{is_err}
+use Rattle.std.specs.Prelude.{ℕ, zero, suc, ◌+◌, ◌-◌, ◌*◌, ◌^◌, ◌≤◌, ◌<◌, ◌≡◌, refl, List, [], ◌∷◌, Bool, true, false, ◌&&◌, length, leb, ltb, Err, None, Ok, Option, Some}
 use Rattle.std.proofs.Common.{sym, arith, leb-true, ltb-true, le-leb}
 use Rattle.std.proofs.lemmas.Bool.{lt-leb}
 use Rattle.bits.specs.Bits.{get_bits, bits_of_nat}
-use Rattle.tetra_core.specs.Refusal.{number, refused_by, numbered, unless, first, first-none, passed}
+use Rattle.tetra_core.specs.Refusal.{number, numbered, unless, first, first-none, passed}
 use Rattle.tetra_core.specs.Quantity.{octets_of}
 use Rattle.tetra_core.specs.BitBuffer.{room_refusal, good_window, at, moved, after, bytes_after, reads, read_refused, moves, changed, peek_at, peek_place, seek_place, read_refusal, read_bits, write_refusal, written, outcome, copy_refusal, remaining, into_slice_refusal, window_len, bitvec_refusal, are_bits, from_bitarr_refusal}
 use Rattle.bits.proofs.Laws.Writes.{length-put_bits, get_bits-put_bits}
@@ -215,11 +214,6 @@ bytes-refused r (suc j) s t e h = refl
 -- the same by a reason
 pub bytes-stay : (r : Reason) (j : ℕ) (s t : List ℕ) → number r ≡ j → s ≡ bytes_after j s t
 bytes-stay r j s t e = bytes-refused (number r) j s t e (numbered r).some
-
--- what is an error leaves the bytes
-pub bytes-kept : (b : Result (Unit {0}) Reason) (s t : List ℕ) → is_err b ≡ true → s ≡ bytes_after (refused_by b) s t
-bytes-kept (Ok u) s t e = absurd (let n : ◌≡◌ {A = Bool} false true = e in cc)
-bytes-kept (Err r) s t e = bytes-stay r (number r) s t refl
 
 pub bytes-done : (j : ℕ) (s t : List ℕ) → j ≡ 0 → t ≡ bytes_after j s t
 bytes-done zero s t e = refl
