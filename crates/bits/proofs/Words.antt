@@ -5,24 +5,25 @@ use mathlib.Core.List.{List, [], ◌∷◌, ◌++◌, append_assoc}
 use mathlib.Core.Bool.{Bool}
 use native.Mathlib.Nat.{zero-add, add-zero, add-sub_of_le, lt_of_lt_of_le, mod-mod, mod-eq_of_lt, mul_assoc, add-mul, add_assoc, pow-zero, div-one}
 use native.Mathlib.Omega.{arith}
+use borrow.Rule.Slice.PartMut.{put_mid}
 use lib.ListN.{length, get_or, take, drop, set, length-append, length-drop, take-append-drop}
 use lib.Seq.{length-take-le, take_at, drop_at, drop-cons, set_split, split_at, drop-drop}
 use lib.Bits.{bit_or, or_shifted}
 use lib.Pow.{pow-add, pow_mono, high, low, shr_lt, shr_mod}
 use lib.Arith.{digits_lt}
-use Rattle.std.proofs.Common.{add-one}
-use Rattle.std.specs.Int.{w64, bytes_high_first, from_be_bytes}
+use Rattle.std.proofs.Common.{add-one, take_all}
+use Rattle.std.specs.Int.{w64, from_be_bytes}
 use Rattle.std.proofs.lemmas.Nat.{be_bytes_8}
 use Rattle.std.proofs.lemmas.List.{append-nil, get_or-drop, get_or-take}
 use Rattle.std.specs.List.{fold}
 use Rattle.std.proofs.lemmas.List.Sums.{fold_more}
 use Rattle.bits.proofs.Laws.Shifts.{push_is, shl_is, within-is}
 use Rattle.bits.specs.Bits.{val, bits_of_nat, bits_of, pack, splice, bits_at, get_bits, put_bits, patch, Leading, Bytes}
-use Rattle.bits.proofs.Laws.Values.{val-append, val_lt, length-bits_of_nat, val-bits_of_nat, bits_of_nat-val, bits_of_nat-add}
-use Rattle.bits.proofs.Laws.Bytes.{bits_of_high_first, bits_of_cons, length_bits_of, bits_of_append, drop_bits_of, pack_bits_of, bits_of_inj, bytes-take, bytes-set}
+use Rattle.bits.proofs.Laws.Values.{val-append, val_lt, length-bits_of_nat, val-bits_of_nat, bits_of_nat-val, bits_of_nat-mod, bits_of_nat-add}
+use Rattle.bits.proofs.Laws.Bytes.{bits_of_high_first, bits_of_nil, bits_of_cons, length_bits_of, bits_of_append, drop_bits_of, pack_bits_of, bits_of_inj, bytes-take, bytes-set}
 use Rattle.bits.proofs.Laws.Splice.{splice_mid}
 use Rattle.bits.proofs.Laws.Reads.{bits_at_bytes, get_bits_lt, get_bits-zero, at-is, get_is, bits_at_add, length_bits_at, get_bits-part}
-use Rattle.bits.proofs.Laws.Writes.{put_is, length-put_bits, bytes-put_bits, bits_of_put_bits, put_bits-append}
+use Rattle.bits.proofs.Laws.Writes.{put_is, length-put_bits, bytes-put_bits, bits_of_put_bits, put_bits-append, put_bytes}
 
 pub patch_def : (b k m v : ℕ) → patch b k m v ≡ b / 2 ^ (k + m) * 2 ^ (k + m) + (v % 2 ^ k * 2 ^ m + b % 2 ^ m)
 unfolding patch
@@ -349,14 +350,50 @@ put_all s ys l h =
         rw (append-nil (bits_of s), append-nil (bits_of ys)) at
         (splice_mid 0 [] (bits_of s) (bits_of ys) [] refl (simp (length_bits_of, l)))
 
--- the last n of a number's eight bytes
-pub low_bytes : (n x : ℕ) → n ≤ 8 → bits_of (drop (8 - n) (bytes_high_first 8 x)) ≡ bits_of_nat (8 * n) x
-low_bytes n x h =
-    rw (← drop_bits_of (8 - n) (bytes_high_first 8 x) (omega arith), bits_of_high_first 8 x, cut_x)
-    (drop_at (bits_of_nat (8 * (8 - n)) (x / 2 ^ (8 * n))) (bits_of_nat (8 * n) x) (8 * (8 - n)) (length-bits_of_nat _ _))
-  where
-    e : 64 ≡ 8 * (8 - n) + 8 * n
-    e = omega arith
+-- all bits that are put
+pub put_whole : (s : List ℕ) (xs : List Bool) → length xs ≡ 8 * length s → bits_of (put_bits s 0 xs) ≡ xs
+put_whole s xs l =
+    bits_of_put_bits s 0 xs (omega arith)
+    ∙ rw (append-nil (bits_of s), append-nil xs) at (splice_mid 0 [] (bits_of s) xs [] refl (l ∙ sym (length_bits_of s)))
 
-    cut_x : bits_of_nat 64 x ≡ bits_of_nat (8 * (8 - n)) (x / 2 ^ (8 * n)) ++ bits_of_nat (8 * n) x
-    cut_x = ap (λ (k : ℕ). bits_of_nat k x) e ∙ bits_of_nat-add (8 * (8 - n)) (8 * n) x
+-- some bytes of s as a number
+pub get_part : (s : List ℕ) (i k : ℕ) → i + k ≤ length s → get_bits (take k (drop i s)) 0 (8 * length (take k (drop i s))) ≡ get_bits s (8 * i) (8 * k)
+unfolding get_bits
+get_part s i k h =
+    let t = take k (drop i s) in
+    ap val (rw (take_all (length t) t (omega arith)) at (bits_at_bytes t 0 (length t) (omega arith)) ∙ sym (bits_at_bytes s i k h))
+
+-- a number that is put into them
+pub put_part : (s : List ℕ) (i k x : ℕ) → i + k ≤ length s
+    → Bytes (put_mid i k s (put_bits (take k (drop i s)) 0 (bits_of_nat (8 * length (take k (drop i s))) x)))
+    → put_mid i k s (put_bits (take k (drop i s)) 0 (bits_of_nat (8 * length (take k (drop i s))) x)) ≡ put_bits s (8 * i) (bits_of_nat (8 * k) x)
+put_part s i k x h b =
+    let t = take k (drop i s) in
+    let l : length t ≡ k = length-take-le k (drop i s) (omega (arith, length-drop i s)) in
+    put_bytes s _ i k (sym (length-put_bits t 0 _ ∙ l)) h b
+    ∙ ap (put_bits s (8 * i)) (put_whole t _ (length-bits_of_nat _ _) ∙ ap (λ (j : ℕ). bits_of_nat (8 * j) x) l)
+
+one_byte : (t : List ℕ) (y : ℕ) → length t ≡ 1 → set t 0 y ≡ y ∷ []
+one_byte [] y e = absurd (omega arith)
+one_byte (b ∷ []) y e = refl
+one_byte (b ∷ (c ∷ t)) y e = absurd (omega arith)
+
+-- all bytes of a number, the last one behind the others
+pub last_byte : (s r t : List ℕ) (x : ℕ) → length s ≡ length r + 1 → length t ≡ 1
+    → Bytes (put_bits r 0 (bits_of_nat (8 * length r) (x / 256)) ++ set t 0 (x % 256))
+    → put_bits r 0 (bits_of_nat (8 * length r) (x / 256)) ++ set t 0 (x % 256) ≡ put_bits s 0 (bits_of_nat (8 * length s) x)
+last_byte s r t x l k h = put_all s _ len h ∙ ap (put_bits s 0) bits
+  where
+    front : List ℕ
+    front = put_bits r 0 (bits_of_nat (8 * length r) (x / 256))
+
+    len : length (front ++ set t 0 (x % 256)) ≡ length s
+    len = rw (one_byte t (x % 256) k, length-append, length-put_bits) (sym l)
+
+    size : 8 * length s ≡ 8 * length r + 8
+    size = omega arith
+
+    bits : bits_of (front ++ set t 0 (x % 256)) ≡ bits_of_nat (8 * length s) x
+    bits =
+        rw (one_byte t (x % 256) k, bits_of_append, put_whole r _ (length-bits_of_nat _ _), bits_of_cons, bits_of_nil, append-nil, size, bits_of_nat-add (8 * length r) 8 x)
+        (ap (λ (l : List Bool). bits_of_nat (8 * length r) (x / 256) ++ l) (bits_of_nat-mod 8 (x % 256) x (mod-mod x 256)))

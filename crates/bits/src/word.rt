@@ -139,23 +139,32 @@ fn put_in_byte(s: &mut [u8], pos: usize, n: usize, v: u64)
     s[at] = byte_replaced(b, n, 8 - pos % 8 - n, v);
 }
 
-// All bytes of a slice that is shorter than a word, by the low bytes of x.
+// All bytes of a slice that is shorter than a word, by the low bytes of x, the last byte first: a copy of so few bytes would call memcpy.
 fn store_all(s: &mut [u8], x: u64)
     requires { length s.old < 8 }
     ensures { s.new ≡ put_bits s.old 0 (bits_of_nat (8 * length s.old) x) }
 {
-    s.copy_from_slice(&x.to_be_bytes()[8 - s.len()..]);
+    let n = s.len();
+    if n == 0 {
+        return;
+    }
+    let (rest, last) = s.split_at_mut(n - 1);
+    last[0] = (x % 256) as u8;
+    store_all(rest, x / 256);
 }
 
-// The number v put into the n bits from pos on of a slice that is shorter than a word. Copied into put_by_words it would make that slower for words.
+// The number v put into the n bits from pos on of a slice that is shorter than a word, by the bytes in which they lie. Copied into put_by_words it
+// would make that slower for words.
 #[inline(never)]
 fn put_in_all(s: &mut [u8], pos: usize, n: usize, v: u64)
     requires { (length s.old < 8) × (pos + n ≤ 8 * length s.old) × (0 < n) × (v < 2 ^ n) }
     ensures { s.new ≡ put_bits s.old pos (bits_of_nat n v) }
 {
-    let x = load_all(s);
-    let o = 64 - 8 * s.len() + pos;
-    store_all(s, word_replaced(x, o, n, v));
+    let at = pos / 8;
+    let part = &mut s[at..(pos + n + 7) / 8];
+    let x = load_all(part);
+    let o = 64 - 8 * part.len() + pos % 8;
+    store_all(part, word_replaced(x, o, n, v));
 }
 
 // The number v put into the n bits from pos on. It has many callers, and is too long to be copied into one of them.
