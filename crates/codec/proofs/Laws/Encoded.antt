@@ -1,5 +1,5 @@
 -- The laws of specs/Encoded.antt.
-use Rattle.std.specs.Prelude.{ℕ, ◌+◌, ◌-◌, ◌*◌, ◌^◌, ◌≤◌, ◌<◌, ◌≡◌, refl, List, [], ◌∷◌, ◌++◌, Bool, false, length, Result, Ok, Err}
+use Rattle.std.specs.Prelude.{ℕ, ◌+◌, ◌-◌, ◌*◌, ◌^◌, ◌≤◌, ◌<◌, ◌≡◌, refl, List, [], ◌∷◌, ◌++◌, Bool, false, length, Result, Err}
 use Rattle.std.specs.Result.{result_and}
 use Rattle.std.proofs.Common.{sym, ap, ◌∙◌, append_assoc, append-nil, add-zero, mod-eq_of_lt, arith, length-append}
 use Rattle.bits.specs.Bits.{digit, val, bits_of_nat}
@@ -31,8 +31,9 @@ refused-encodes r {n = n} e l = record {
   bits = λ w. absurd ((numbered r).some (e ∙ w));
 }
 
-pub piece_encodes : {j n : ℕ} {xs : List Bool} {p : Piece} → 0 ≡ j → n ≤ 63 → Holds xs n p → EncodesOne j n xs (record { judged = Ok tt; piece = p })
-piece_encodes {p = p} e l h = record {
+pub piece_encodes : {j n : ℕ} {xs : List Bool} {p : Piece} (r : Result Unit Reason) → refused_by r ≡ j → n ≤ 63 → Holds xs n p
+    → EncodesOne j n xs (record { judged = r; piece = p })
+piece_encodes {p = p} r e l h = record {
   number = e;
   bit_count = add-zero p.bits ∙ h.size;
   sound = record { few = (omega (arith, h.size), tt); fit = λ _. (h.small, tt) };

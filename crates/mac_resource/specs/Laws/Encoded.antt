@@ -52,4 +52,4 @@ module _ (h : MacResource) where
 
 -- "a null header has no elements", and "Null elements go unchecked"
 pub null-encodes : (h : MacResource) → is_null h.addr ≡ true → EncodesRest h (record { judged = Ok tt; piece = record { value = 0; bits = 0 } })
-null-encodes h n = rw n (piece_encodes refl (omega arith) (record { is = bits-zero 0; size = refl; small = omega arith }))
+null-encodes h n = rw n (piece_encodes (Ok tt) refl (omega arith) (record { is = bits-zero 0; size = refl; small = omega arith }))

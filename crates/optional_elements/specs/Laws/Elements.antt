@@ -60,7 +60,7 @@ module _ (e : Elements) where
 -- three flags that are not set
 none-encodes : EncodesOne (elements_refusal no_elements) flags_len (elements_bits no_elements) (record { judged = Ok tt; piece = record { value = 0; bits = flags_len } })
 unfolding elements_refusal grant_and_allocation_refusal elements_bits grant_and_allocation_bits row_bits bits_of_nat first
-none-encodes = piece_encodes refl (omega arith) (record { is = refl; size = refl; small = lit< tt })
+none-encodes = piece_encodes (Ok tt) refl (omega arith) (record { is = refl; size = refl; small = lit< tt })
 
 bare_is : (p : Option ℕ) (g : Option BasicSlotgrant) (a : Option ChanAllocElement)
     → let e : Elements = record { power_control_element = p; grant_and_allocation = record { slot_granting_element = g; chan_alloc_element = a } } in
