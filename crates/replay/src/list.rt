@@ -79,12 +79,12 @@ impl<'a> Reader<'a> {
         self.bytes(n)
     }
 
-    // Numbers, after their count.
-    pub(crate) fn numbers(&mut self) -> Result<ArrayVec<u64, MOST_WORDS>, Malformed> {
-        let mut all = ArrayVec::new();
+    // Numbers, after their count, in place of those that were there.
+    pub(crate) fn numbers(&mut self, all: &mut ArrayVec<u64, MOST_WORDS>) -> Result<(), Malformed> {
+        all.clear();
         for _ in 0..self.number()? {
             all.try_push(self.number()?).map_err(|_| Malformed)?;
         }
-        Ok(all)
+        Ok(())
     }
 }

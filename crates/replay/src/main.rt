@@ -8,7 +8,7 @@ mod record;
 mod tally;
 
 use list::Reader;
-use record::Record;
+use record::{Record, Room};
 use std::io;
 use std::io::Read;
 use tally::Tally;
@@ -35,7 +35,7 @@ impl From<io::Error> for Fault {
 }
 
 // The calls of a record, one for each window that it stands for.
-fn replay_record(rt: &impl Print, record: &Record<'_>, tally: &mut Tally) -> io::Result<()> {
+fn replay_record(rt: &impl Print, record: &Record<'_, '_>, tally: &mut Tally) -> io::Result<()> {
     let call = record.call;
     for i in 0..record.windows {
         let checked = record.check(i);
@@ -50,6 +50,7 @@ fn replay_record(rt: &impl Print, record: &Record<'_>, tally: &mut Tally) -> io:
 // The records of a page up to that of length 0. What is behind that fills up a page, or there is nothing.
 fn replay_page(rt: &impl Print, page: &[u8], tally: &mut Tally) -> Result<(), Fault> {
     let mut list = Reader::new(page);
+    let mut room = Room::new();
     while !list.is_empty() {
         let at = page.len() - list.len();
         let bytes = list.counted_bytes().map_err(|_| Fault::Malformed(at))?;
@@ -60,7 +61,7 @@ fn replay_page(rt: &impl Print, page: &[u8], tally: &mut Tally) -> Result<(), Fa
                 left => Err(Fault::Malformed(page.len() - left)),
             };
         }
-        let record = Record::try_from(bytes).map_err(|_| Fault::Malformed(at))?;
+        let record = Record::read(bytes, &mut room).map_err(|_| Fault::Malformed(at))?;
         replay_record(rt, &record, tally)?;
     }
     Err(Fault::Malformed(page.len()))

@@ -81,20 +81,43 @@ impl Class {
     }
 }
 
+// Room for a record's lists, which a page lends to one record after the other: most stand for one window, and a record that held its lists would
+// be filled and moved for longer than it is checked.
 #[derive(Drop)]
-pub(crate) struct Record<'a> {
+pub(crate) struct Room {
+    numbers: ArrayVec<u64, MOST_WORDS>,
+    // The list behind the numbers, and the words that it stands for.
+    answer: ArrayVec<u64, MOST_WORDS>,
+    recorded: Words,
+    // The words of a call that is refused, where none are recorded.
+    unmoved: Words,
+}
+
+impl Room {
+    pub(crate) fn new() -> Room {
+        Room {
+            numbers: ArrayVec::new(),
+            answer: ArrayVec::new(),
+            recorded: Words::untouched(),
+            unmoved: Words::untouched(),
+        }
+    }
+}
+
+#[derive(Drop)]
+pub(crate) struct Record<'a, 'r> {
     pub(crate) call: Call,
     pub(crate) class: Class,
     bytes: &'a [u8],
     // The first window; the others end one bit later each.
     first: Cursor,
     pub(crate) windows: u64,
-    numbers: ArrayVec<u64, MOST_WORDS>,
+    numbers: &'r [u64],
     // The words and the bytes that the call has to leave.
-    words: Words,
+    words: &'r Words,
     left: &'a [u8],
     // Where the original was cut off, the bits from pos at which it was, in pairs: for how many windows, and the bit.
-    stops: Option<Words>,
+    stops: Option<&'r Words>,
     ghost short: { length bytes.now ≤ MOST_BYTES },
 }
 
@@ -117,10 +140,23 @@ fn always_answers(call: Call) -> bool {
     )
 }
 
-impl<'a> TryFrom<&'a [u8]> for Record<'a> {
-    type Error = Malformed;
+// A call that is refused leaves the cursor as it was, and puts no other word.
+fn unmoved_words(call: Call, c: Cursor, room: &mut Words) -> &Words {
+    *room = Words::untouched();
+    if matches!(call, Call::Read(_) | Call::Write(_) | Call::Bits(_)) {
+        room.put(&[c.pos as u64]);
+    }
+    room
+}
 
-    fn try_from(record: &'a [u8]) -> Result<Record<'a>, Malformed> {
+impl<'a, 'r> Record<'a, 'r> {
+    pub(crate) fn read(record: &'a [u8], room: &'r mut Room) -> Result<Record<'a, 'r>, Malformed> {
+        let Room {
+            numbers,
+            answer,
+            recorded,
+            unmoved,
+        } = room;
         let mut list = Reader::new(record);
         let call = Call::try_from(list.number()?)?;
         let class = Class::try_from(list.number()?)?;
@@ -134,40 +170,44 @@ impl<'a> TryFrom<&'a [u8]> for Record<'a> {
         if MOST_BYTES < bytes.len() || windows == 0 || MOST_WINDOWS < windows {
             return Err(Malformed);
         }
+        list.numbers(numbers)?;
         let mut record = Record {
             call,
             class,
             bytes,
             first,
             windows,
-            numbers: list.numbers()?,
-            words: Words::untouched(),
+            numbers,
+            words: unmoved_words(call, first, unmoved),
             left: bytes,
             stops: None,
         };
-        record.read_answer(&mut list)?;
+        record.read_answer(&mut list, answer, recorded)?;
         if list.is_empty() {
             Ok(record)
         } else {
             Err(Malformed)
         }
     }
-}
 
-impl<'a> Record<'a> {
-    // What the call has to leave. A call that is refused leaves bytes and cursor as they were. The record has one list: of the answer's words, of
-    // the stops, or of both, where a call that was cut off always answers.
-    fn read_answer(&mut self, list: &mut Reader<'a>) -> Result<(), Malformed> {
+    // What the call has to leave; a call that is refused leaves the bytes as they were. The record has one list: of the answer's words, of the stops, or of both, where a call that was cut off always
+    // answers.
+    fn read_answer(
+        &mut self,
+        list: &mut Reader<'a>,
+        answer: &mut ArrayVec<u64, MOST_WORDS>,
+        recorded: &'r mut Words,
+    ) -> Result<(), Malformed> {
         let answered = matches!(self.class, Class::Completed) || always_answers(self.call);
         let cut_off = matches!(self.class, Class::CutOff);
-        let mut recorded = Words::untouched();
+        *recorded = Words::untouched();
         if answered || cut_off {
-            recorded.put(&list.numbers()?);
+            list.numbers(answer)?;
+            recorded.put(answer);
         }
+        let recorded = &*recorded;
         if answered {
             self.words = recorded;
-        } else if matches!(self.call, Call::Read(_) | Call::Write(_) | Call::Bits(_)) {
-            self.words.put(&[self.first.pos as u64]);
         }
         if cut_off {
             self.stops = Some(recorded);
@@ -199,7 +239,7 @@ impl<'a> Record<'a> {
     // The bit at which the original was cut off in window i, where it was. Behind the pairs that are recorded it is a word that is not put, and 0
     // behind all that there is room for.
     fn stop(&self, i: u64) -> Option<u64> {
-        let stops = self.stops.as_ref()?;
+        let stops = self.stops?;
         let mut before = i;
         let (pairs, _) = stops.words.as_chunks::<2>();
         for [windows, bit] in pairs {
@@ -219,7 +259,7 @@ impl<'a> Record<'a> {
         let mut out = Words::untouched();
         let given = Given {
             window: self.window(i),
-            numbers: &self.numbers,
+            numbers: self.numbers,
         };
         let answer = self.call.run(bytes, given, &mut out);
         let stop = self.stop(i);
