@@ -190,8 +190,8 @@ impl<'a, 'r> Record<'a, 'r> {
         }
     }
 
-    // What the call has to leave; a call that is refused leaves the bytes as they were. The record has one list: of the answer's words, of the stops, or of both, where a call that was cut off always
-    // answers.
+    // What the call has to leave; a call that is refused leaves the bytes as they were. The record has one list: of the answer's words, of the
+    // stops, or of both, where a call that was cut off always answers.
     fn read_answer(
         &mut self,
         list: &mut Reader<'a>,
