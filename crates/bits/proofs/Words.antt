@@ -20,7 +20,7 @@ use Rattle.std.proofs.lemmas.List.Sums.{fold_more}
 use Rattle.bits.proofs.Laws.Shifts.{push_is, shl_is, within-is}
 use Rattle.bits.specs.Bits.{val, bits_of_nat, bits_of, pack, splice, bits_at, get_bits, put_bits, patch, Leading, Bytes}
 use Rattle.bits.proofs.Laws.Values.{val-append, val_lt, length-bits_of_nat, val-bits_of_nat, bits_of_nat-val, bits_of_nat-mod, bits_of_nat-add}
-use Rattle.bits.proofs.Laws.Bytes.{bits_of_high_first, bits_of_nil, bits_of_cons, length_bits_of, bits_of_append, drop_bits_of, pack_bits_of, bits_of_inj, bytes-take, bytes-set}
+use Rattle.bits.proofs.Laws.Bytes.{bits_of_high_first, bits_of_nil, bits_of_cons, length_bits_of, bits_of_append, drop_bits_of, bits_of_inj, bytes-take, bytes-set}
 use Rattle.bits.proofs.Laws.Splice.{splice_mid}
 use Rattle.bits.proofs.Laws.Reads.{bits_at_bytes, get_bits_lt, get_bits-zero, at-is, get_is, bits_at_add, length_bits_at, get_bits-part}
 use Rattle.bits.proofs.Laws.Writes.{put_is, length-put_bits, bytes-put_bits, bits_of_put_bits, put_bits-append, put_bytes}
@@ -340,16 +340,6 @@ put_bits-word s p w o n m v e h =
     spliced : splice p (a ++ (xs ++ b)) (bits_of s) ≡ splice (p + o) xs (bits_of s)
     spliced = rw shape (rw lq at (splice-part q a k b r xs (lx ∙ sym lk))) ∙ ap (λ (j : ℕ). splice (p + j) xs (bits_of s)) la
 
--- all bytes that are written
-pub put_all : (s ys : List ℕ) → length ys ≡ length s → Bytes ys → ys ≡ put_bits s 0 (bits_of ys)
-put_all s ys l h =
-    sym (rw (put_is s 0 (bits_of ys), spliced, ← l) (pack_bits_of ys h))
-  where
-    spliced : splice 0 (bits_of ys) (bits_of s) ≡ bits_of ys
-    spliced =
-        rw (append-nil (bits_of s), append-nil (bits_of ys)) at
-        (splice_mid 0 [] (bits_of s) (bits_of ys) [] refl (simp (length_bits_of, l)))
-
 -- all bits that are put
 pub put_whole : (s : List ℕ) (xs : List Bool) → length xs ≡ 8 * length s → bits_of (put_bits s 0 xs) ≡ xs
 put_whole s xs l =
@@ -382,18 +372,12 @@ one_byte (b ∷ (c ∷ t)) y e = absurd (omega arith)
 pub last_byte : (s r t : List ℕ) (x : ℕ) → length s ≡ length r + 1 → length t ≡ 1
     → Bytes (put_bits r 0 (bits_of_nat (8 * length r) (x / 256)) ++ set t 0 (x % 256))
     → put_bits r 0 (bits_of_nat (8 * length r) (x / 256)) ++ set t 0 (x % 256) ≡ put_bits s 0 (bits_of_nat (8 * length s) x)
-last_byte s r t x l k h = put_all s _ len h ∙ ap (put_bits s 0) bits
+last_byte s r t x l k h = bits_of_inj _ _ h (bytes-put_bits s 0 _) (bits ∙ sym (put_whole s _ (length-bits_of_nat _ _)))
   where
-    front : List ℕ
-    front = put_bits r 0 (bits_of_nat (8 * length r) (x / 256))
-
-    len : length (front ++ set t 0 (x % 256)) ≡ length s
-    len = rw (one_byte t (x % 256) k, length-append, length-put_bits) (sym l)
-
     size : 8 * length s ≡ 8 * length r + 8
     size = omega arith
 
-    bits : bits_of (front ++ set t 0 (x % 256)) ≡ bits_of_nat (8 * length s) x
+    bits : bits_of (put_bits r 0 (bits_of_nat (8 * length r) (x / 256)) ++ set t 0 (x % 256)) ≡ bits_of_nat (8 * length s) x
     bits =
         rw (one_byte t (x % 256) k, bits_of_append, put_whole r _ (length-bits_of_nat _ _), bits_of_cons, bits_of_nil, append-nil, size, bits_of_nat-add (8 * length r) 8 x)
         (ap (λ (l : List Bool). bits_of_nat (8 * length r) (x / 256) ++ l) (bits_of_nat-mod 8 (x % 256) x (mod-mod x 256)))

@@ -140,13 +140,13 @@ fn always_answers(call: Call) -> bool {
     )
 }
 
-// A call that is refused leaves the cursor as it was, and puts no other word.
-fn unmoved_words(call: Call, c: Cursor, room: &mut Words) -> &Words {
-    *room = Words::untouched();
+// The words of a call that is refused: the cursor's bit as it was, where the call has one.
+fn unmoved_words(call: Call, c: Cursor, words: &mut Words) -> &Words {
+    *words = Words::untouched();
     if matches!(call, Call::Read(_) | Call::Write(_) | Call::Bits(_)) {
-        room.put(&[c.pos as u64]);
+        words.put(&[c.pos as u64]);
     }
-    room
+    words
 }
 
 impl<'a, 'r> Record<'a, 'r> {
